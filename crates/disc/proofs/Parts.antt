@@ -1,0 +1,72 @@
+-- Numbers of the parts.
+use mathlib.Core.Path.{_≡_, refl, sym, ap, _∙_}
+use Prim.Native.Nat.{ℕ, zero, suc, _+_, _*_, _≤_, _<_, _^_}
+use native.Mathlib.Nat.{mul-le-mul}
+use native.Mathlib.Omega.{arith}
+use lib.IntN.{ℤ, pos, negsuc, negℤ, natAbs, _*ℤ_}
+use lib.IntN.{_+ℤ_, _-ℤ_}
+use mir.Syntax.{w64}
+use mir.Val.{SFits, toZ, ofZ}
+use borrow.Author.Differences.{ints}
+use Rattle.std.proofs.shelf.Signed.{toZ-ofZ}
+use Rattle.std.specs.Numbers.{divEuclid}
+use mathlib.Core.Bool.{Bool, true, false, cond}
+use Rattle.enclosure.specs.Discs.{Ball, ranged, in-range, scaled, made, ball, down}
+use Rattle.enclosure.specs.Arithmetic.{Outcome, known, refused}
+
+-- equal numbers, one answer
+pub same-scaled : {o : Outcome Ball} {x x′ y y′ : ℤ} {n n′ : ℕ} → o ≡ scaled (ball x y n) → x ≡ x′ → y ≡ y′ → n ≡ n′ → o ≡ scaled (ball x′ y′ n′)
+same-scaled {x′ = x′} {y = y} {y′ = y′} {n = n} {n′ = n′} e p q r =
+  e ∙ ap (λ (z : ℤ). scaled (ball z y n)) p ∙ ap (λ (z : ℤ). scaled (ball x′ z n)) q ∙ ap (λ (z : ℕ). scaled (ball x′ y′ z)) r
+
+abs-neg : (z : ℤ) → natAbs (negℤ z) ≡ natAbs z
+abs-neg (pos zero) = refl
+abs-neg (pos (suc n)) = refl
+abs-neg (negsuc n) = refl
+
+pub abs-product : (a b : ℤ) → natAbs (a *ℤ b) ≡ natAbs a * natAbs b
+abs-product (pos a) (pos b) = refl
+abs-product (pos a) (negsuc b) = abs-neg (pos (a * suc b))
+abs-product (negsuc a) (pos b) = abs-neg (pos (suc a * b))
+abs-product (negsuc a) (negsuc b) = refl
+
+pub product-most : (a b : ℤ) (m n : ℕ) → natAbs a ≤ m → natAbs b ≤ n → natAbs (a *ℤ b) ≤ m * n
+product-most a b m n p q = omega (arith, abs-product a b, mul-le-mul p q)
+
+-- a quotient by a positive number is rounded down
+pub quotient-down : (z : ℤ) (e : ℕ) → divEuclid z (pos e) ≡ down z e
+quotient-down (pos a) e = refl
+quotient-down (negsuc a) e = refl
+
+pub same-down : {z z′ : ℤ} {e e′ : ℕ} → z ≡ z′ → e ≡ e′ → down z e ≡ down z′ e′
+same-down {z′ = z′} {e = e} p q = ap (λ (y : ℤ). down y e) p ∙ ap (λ (n : ℕ). down z′ n) q
+
+-- sums and differences of products fit, and are read back
+pub sum-fits : (p q : ℤ) → natAbs p ≤ 2 ^ 60 → natAbs q ≤ 2 ^ 60 → SFits w64 (toZ w64 (ofZ w64 p) +ℤ toZ w64 (ofZ w64 q))
+sum-fits p q h k = omega (arith, ints)
+
+pub difference-fits : (p q : ℤ) → natAbs p ≤ 2 ^ 60 → natAbs q ≤ 2 ^ 60 → SFits w64 (toZ w64 (ofZ w64 p) -ℤ toZ w64 (ofZ w64 q))
+difference-fits p q h k = omega (arith, ints)
+
+pub sum-read : (p q : ℤ) {x y : ℤ} → natAbs p ≤ 2 ^ 60 → natAbs q ≤ 2 ^ 60 → p ≡ x → q ≡ y → toZ w64 (ofZ w64 (toZ w64 (ofZ w64 p) +ℤ toZ w64 (ofZ w64 q))) ≡ x +ℤ y
+sum-read p q h k e f = rw (← e, ← f) (omega (arith, ints))
+
+pub difference-read : (p q : ℤ) {x y : ℤ} → natAbs p ≤ 2 ^ 60 → natAbs q ≤ 2 ^ 60 → p ≡ x → q ≡ y → toZ w64 (ofZ w64 (toZ w64 (ofZ w64 p) -ℤ toZ w64 (ofZ w64 q))) ≡ x -ℤ y
+difference-read p q h k e f = rw (← e, ← f) (omega (arith, ints))
+
+-- what is on scale is a disc, and what is off scale is none
+pub made-known : {x x′ y y′ z : ℤ} {n : ℕ} {c : Ball} → x ≡ x′ → y ≡ y′ → z ≡ pos n → known c ≡ scaled (ball x y n) → known c ≡ made x′ y′ z
+unfolding ranged
+made-known {x} {x′} {y} {y′} {z} {n} {c} p q r e = rw (← p, ← q, r) (go (in-range (ball x y n)) e)
+  where
+    go : (t : Bool) → known c ≡ cond t (known (ball x y n)) (refused 9) → known c ≡ cond t (known (ball x y n)) (refused 1)
+    go true e = e
+    go false e = let z : _≡_ {A = ℕ} 0 1 = cc in absurd (omega arith)
+
+pub made-refused : {x x′ y y′ z : ℤ} {n k : ℕ} → x ≡ x′ → y ≡ y′ → z ≡ pos n → refused k ≡ scaled (ball x y n) → refused 1 ≡ made x′ y′ z
+unfolding ranged
+made-refused {x} {x′} {y} {y′} {z} {n} {k} p q r e = rw (← p, ← q, r) (go (in-range (ball x y n)) e)
+  where
+    go : (t : Bool) → refused k ≡ cond t (known (ball x y n)) (refused 9) → refused 1 ≡ cond t (known (ball x y n)) (refused 1)
+    go true e = let z : _≡_ {A = ℕ} 0 1 = cc in absurd (omega arith)
+    go false e = refl

@@ -1,0 +1,25 @@
+//! Why a disc is refused.
+ghost use mathlib.Core.Path.{_≡_};
+ghost use Rattle.disc.specs.Meaning.{cause};
+
+/// Why an operation on discs is refused, by the number of the cause.
+#[derive(Clone, Copy, PartialEq, Eq, Debug)]
+pub enum Refusal {
+    /// The divisor may be zero.
+    ZeroDivisor = 8,
+    /// A part or the radius of the result is larger than the limit.
+    OffScale = 9,
+}
+
+/// Three plain numbers that are no disc: the refusal of number 1.
+#[derive(Clone, Copy, PartialEq, Eq, Debug)]
+pub struct OutOfRange;
+
+impl Refusal {
+    /// The number of the cause.
+    pub fn number(self) -> u8
+        ensures { λ n. ⌜ n ≡ cause self ⌝ }
+    {
+        self as u8
+    }
+}

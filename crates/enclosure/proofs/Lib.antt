@@ -1,0 +1,4 @@
+pub mod Rounding
+pub mod Holding
+pub mod Reciprocals
+pub mod Enclosing

@@ -1,0 +1,3 @@
+pub mod Ring
+pub mod Numbers
+pub mod Vectors
