@@ -1,0 +1,3 @@
+pub mod Enclosed
+pub mod OnePorts
+pub mod OnePortTruths

@@ -1,0 +1,5 @@
+pub mod Formula
+pub mod Exactly
+pub mod Enclosure
+pub mod OnePort
+pub mod OnePortTruth
