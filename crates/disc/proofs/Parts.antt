@@ -17,7 +17,7 @@ use Rattle.enclosure.specs.Arithmetic.{Outcome, known, refused}
 -- equal numbers, one answer
 pub same-scaled : {o : Outcome Ball} {x x′ y y′ : ℤ} {n n′ : ℕ} → o ≡ scaled (ball x y n) → x ≡ x′ → y ≡ y′ → n ≡ n′ → o ≡ scaled (ball x′ y′ n′)
 same-scaled {x′ = x′} {y = y} {y′ = y′} {n = n} {n′ = n′} e p q r =
-  e ∙ ap (λ (z : ℤ). scaled (ball z y n)) p ∙ ap (λ (z : ℤ). scaled (ball x′ z n)) q ∙ ap (λ (z : ℕ). scaled (ball x′ y′ z)) r
+    e ∙ ap (λ (z : ℤ). scaled (ball z y n)) p ∙ ap (λ (z : ℤ). scaled (ball x′ z n)) q ∙ ap (λ (z : ℕ). scaled (ball x′ y′ z)) r
 
 abs-neg : (z : ℤ) → natAbs (negℤ z) ≡ natAbs z
 abs-neg (pos zero) = refl

@@ -1,3 +1,4 @@
+pub mod Outcomes
 pub mod Rounding
 pub mod Holding
 pub mod Reciprocals

@@ -26,7 +26,7 @@ below-zero a e h = omega (arith, div-add-mod' a e, mod-lt a h, suc-mul (a / e) e
 pub down-is : (z : ℤ) (e : ℕ) → zero < e → z ≡ down z e *ℤ pos e +ℤ pos (rest z e)
 down-is (pos a) e h = ap pos (sym (div-add-mod' a e))
 down-is (negsuc a) e h =
-  lin ℤR (pos (suc a) ◃ pos (suc (a / e)) ◃ pos e ◃ pos (e - suc (a % e)) ◃ end)
+    lin ℤR (pos (suc a) ◃ pos (suc (a / e)) ◃ pos e ◃ pos (e - suc (a % e)) ◃ end)
     (times (⊝ 𝟏) (var 0 ⊕ var 3) (var 1 ⊗ var 2) done) (ap pos (below-zero a e h), tt)
     (⊝ (var 0)) (⊝ (var 1) ⊗ var 2 ⊕ var 3) refl
 
@@ -39,8 +39,8 @@ rest-less (negsuc a) e h = omega arith
 up-go : (q r e n : ℕ) → q * e + r ≡ n → r < e → n ≤ e * (q + min 1 r)
 up-go q zero e n h k = omega (arith, mul-comm e q, mul-add e q (min 1 zero))
 up-go q (suc r) e n h k =
-  let one : min 1 (suc r) ≡ 1 = omega arith in
-  omega (arith, mul-comm e q, mul-add e q 1, ap (λ (w : ℕ). e * (q + w)) one)
+    let one : min 1 (suc r) ≡ 1 = omega arith in
+    omega (arith, mul-comm e q, mul-add e q 1, ap (λ (w : ℕ). e * (q + w)) one)
 
 pub up-enough : (n e : ℕ) → zero < e → n ≤ e * up n e
 up-enough n e h = up-go (n / e) (n % e) e n (div-add-mod' n e) (mod-lt n h)
@@ -68,8 +68,8 @@ pub root-enough : (s : ℕ) → s ≤ root s * root s
 unfolding root
 root-enough zero = omega arith
 root-enough (suc s) =
-  let ih : s ≤ root s * root s = root-enough s in
-  cond-both (ltb s (root s * root s)) (root s) (suc (root s)) (λ n. suc s ≤ n * n)
+    let ih : s ≤ root s * root s = root-enough s in
+    cond-both (ltb s (root s * root s)) (root s) (suc (root s)) (λ n. suc s ≤ n * n)
     (λ e. omega (arith, ltb-true s (root s * root s) e))
     (λ e. omega (arith, next-square (root s)))
 
@@ -77,8 +77,8 @@ pub root-least : (s m : ℕ) → s ≤ m * m → root s ≤ m
 unfolding root
 root-least zero m h = omega arith
 root-least (suc s) m h =
-  let ih : root s ≤ m = root-least s m (omega arith) in
-  cond-both (ltb s (root s * root s)) (root s) (suc (root s)) (λ n. n ≤ m)
+    let ih : root s ≤ m = root-least s m (omega arith) in
+    cond-both (ltb s (root s * root s)) (root s) (suc (root s)) (λ n. n ≤ m)
     (λ e. ih)
     (λ e. square-less (root s) m (omega (arith, ltb-false s (root s * root s) e)))
 

@@ -31,11 +31,11 @@ quotient R a b = then (R .reciprocal b) λ i. R .times a i
 
 module _ {A : Type 0} (R : Arithmetic A) (O : Ops) (inv : O .C → O .C) (_∋_ : A → O .C → Type 0) where
   open Ops O using (C, _≈_, 𝟘, 𝟙, _+_, _*_, neg)
+
   infix 20 _≈_
   infix 20 _∋_
   infixl 60 _+_
   infixl 70 _*_
-
   pub record Encloses : Type 0 where
     -- a value is never empty, and does not tell equal numbers apart
     pub some-held : (a : A) → (x : C) × (a ∋ x)

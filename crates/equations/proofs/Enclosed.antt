@@ -10,7 +10,6 @@ use Rattle.enclosure.specs.Arithmetic.{Outcome, known, refused, then, Arithmeti
 use Rattle.equations.specs.Formula.{Term, Equation, Open, value, sum, difference, product, the, one, _≔_, number, keep, all, products, finish, bracket, addend, factor, brackets, work, run}
 use Rattle.equations.specs.Formula as F
 use Rattle.equations.specs.Exactly.{exact, exacts, Divides, All-divide}
-use Rattle.equations.specs.Enclosure.{Equations-hold}
 
 -- what is true of the answer, if there is one
 pub data Of-answer {A : Type 0} (P : A → Type 0) : Outcome A → Type 0 where
@@ -38,11 +37,11 @@ yielded {P} h e = given (subst (Of-answer P) e h)
 
 module _ {A : Type 0} (R : Arithmetic A) (O : Ops) (inv : O .C → O .C) (_∋_ : A → O .C → Type 0) where
   open Ops O using (C, _≈_, 𝟘, 𝟙, _+_, _*_, neg)
+
   infix 20 _≈_
   infix 20 _∋_
   infixl 60 _+_
   infixl 70 _*_
-
   data Held : Open A → C → Type 0 where
     hval : {a : A} {x : C} → a ∋ x → Held (value a) x
     hadd : {r s : Open A} {x y : C} → Held r x → Held s y → Held (sum r s) (x + y)
@@ -55,20 +54,20 @@ module _ {A : Type 0} (R : Arithmetic A) (O : Ops) (inv : O .C → O .C) (_∋_ 
     all-holds : (r : Open A) (x : C) → Held r x → Of-answer (λ a. a ∋ x) (all R r)
     all-holds r x (hval h) = yields h
     all-holds r x (hadd {r = r₁} {s = s} {x = u} {y = v} h k) =
-      next (all-holds r₁ u h) λ a p. next (all-holds s v k) λ b q. of (R .plus a b) λ c. sum-held a b c u v p q
+        next (all-holds r₁ u h) λ a p. next (all-holds s v k) λ b q. of (R .plus a b) λ c. sum-held a b c u v p q
     all-holds r x (hsub {r = r₁} {s = s} {x = u} {y = v} h k) =
-      next (all-holds r₁ u h) λ a p. next (all-holds s v k) λ b q. of (R .minus a b) λ c. difference-held a b c u v p q
+        next (all-holds r₁ u h) λ a p. next (all-holds s v k) λ b q. of (R .minus a b) λ c. difference-held a b c u v p q
     all-holds r x (hmul {r = r₁} {s = s} {x = u} {y = v} h k) =
-      next (all-holds r₁ u h) λ a p. next (all-holds s v k) λ b q. of (R .times a b) λ c. product-held a b c u v p q
+        next (all-holds r₁ u h) λ a p. next (all-holds s v k) λ b q. of (R .times a b) λ c. product-held a b c u v p q
 
     products-hold : (r : Open A) (x : C) → Held r x → Of-answer (λ s. Held s x) (products R r)
     products-hold r x (hval h) = yields (hval h)
     products-hold r x (hadd {r = r₁} {s = s} {x = u} {y = v} h k) =
-      next (products-hold r₁ u h) λ a p. next (products-hold s v k) λ b q. yields (hadd p q)
+        next (products-hold r₁ u h) λ a p. next (products-hold s v k) λ b q. yields (hadd p q)
     products-hold r x (hsub {r = r₁} {s = s} {x = u} {y = v} h k) =
-      next (products-hold r₁ u h) λ a p. next (products-hold s v k) λ b q. yields (hsub p q)
+        next (products-hold r₁ u h) λ a p. next (products-hold s v k) λ b q. yields (hsub p q)
     products-hold r x (hmul {r = r₁} {s = s} {x = u} {y = v} h k) =
-      next (all-holds (product r₁ s) (u * v) (hmul h k)) λ a p. yields (hval p)
+        next (all-holds (product r₁ s) (u * v) (hmul h k)) λ a p. yields (hval p)
 
     finish-holds : (r : Open A) (x : C) → Held r x → Of-answer (λ a. a ∋ x) (finish R r)
     finish-holds r x h = next (products-hold r x h) λ s p. all-holds s x p
@@ -90,30 +89,30 @@ module _ {A : Type 0} (R : Arithmetic A) (O : Ops) (inv : O .C → O .C) (_∋_ 
 
     quotient-holds : (x y : A) (u v : C) → x ∋ u → y ∋ v → Of-answer (λ q. (¬ (v ≈ 𝟘)) × (q ∋ u * inv v)) (quotient R x y)
     quotient-holds x y u v p q = next (of (R .reciprocal y) λ c. inverse-held y c v q) λ i g.
-      weaken (of (R .times x i) λ c. product-held x i c u (inv v) p (g .1)) λ c k. (g .0, k)
+        weaken (of (R .times x i) λ c. product-held x i c u (inv v) p (g .1)) λ c k. (g .0, k)
 
     brackets-hold : (t : Term) (ρ : ℕ → A) (ε : ℕ → C) → ((n : ℕ) → ρ n ∋ ε n)
         → Of-answer (λ r. Held r (exact O inv t ε) × Divides O inv t ε) (brackets R t ρ)
     brackets-hold (the n) ρ ε h = yields (hval (h n), tt)
     brackets-hold one ρ ε h = yields (hval unit-held, tt)
     brackets-hold (F._+_ a b) ρ ε h =
-      next (brackets-hold a ρ ε h) λ r p. next (brackets-hold b ρ ε h) λ s q.
-      next (addend-holds s _ (q .0)) λ s′ q′. yields (hadd (p .0) q′, (p .1, q .1))
+        next (brackets-hold a ρ ε h) λ r p. next (brackets-hold b ρ ε h) λ s q.
+        next (addend-holds s _ (q .0)) λ s′ q′. yields (hadd (p .0) q′, (p .1, q .1))
     brackets-hold (F._-_ a b) ρ ε h =
-      next (brackets-hold a ρ ε h) λ r p. next (brackets-hold b ρ ε h) λ s q.
-      next (addend-holds s _ (q .0)) λ s′ q′. yields (hsub (p .0) q′, (p .1, q .1))
+        next (brackets-hold a ρ ε h) λ r p. next (brackets-hold b ρ ε h) λ s q.
+        next (addend-holds s _ (q .0)) λ s′ q′. yields (hsub (p .0) q′, (p .1, q .1))
     brackets-hold (F._*_ a b) ρ ε h =
-      next (brackets-hold a ρ ε h) λ r p. next (addend-holds r _ (p .0)) λ r′ p′.
-      next (brackets-hold b ρ ε h) λ s q. next (factor-holds s _ (q .0)) λ s′ q′. yields (hmul p′ q′, (p .1, q .1))
+        next (brackets-hold a ρ ε h) λ r p. next (addend-holds r _ (p .0)) λ r′ p′.
+        next (brackets-hold b ρ ε h) λ s q. next (factor-holds s _ (q .0)) λ s′ q′. yields (hmul p′ q′, (p .1, q .1))
     brackets-hold (F._/_ a b) ρ ε h =
-      next (brackets-hold a ρ ε h) λ r p. next (finish-holds r _ (p .0)) λ x p′.
-      next (brackets-hold b ρ ε h) λ s q. next (finish-holds s _ (q .0)) λ y q′.
-      next (quotient-holds x y _ _ p′ q′) λ e k. yields (hval (k .1), (p .1, q .1, k .0))
+        next (brackets-hold a ρ ε h) λ r p. next (finish-holds r _ (p .0)) λ x p′.
+        next (brackets-hold b ρ ε h) λ s q. next (finish-holds s _ (q .0)) λ y q′.
+        next (quotient-holds x y _ _ p′ q′) λ e k. yields (hval (k .1), (p .1, q .1, k .0))
 
     work-holds : (t : Term) (ρ : ℕ → A) (ε : ℕ → C) → ((n : ℕ) → ρ n ∋ ε n)
         → Of-answer (λ a. (a ∋ exact O inv t ε) × Divides O inv t ε) (work R t ρ)
     work-holds t ρ ε h = next (brackets-hold t ρ ε h) λ r p.
-      weaken (finish-holds r _ (p .0)) λ a q. (q, p .1)
+        weaken (finish-holds r _ (p .0)) λ a q. (q, p .1)
 
     either : (b : Bool) {v a : A} {x y : C} → v ∋ x → a ∋ y → cond b v a ∋ cond b x y
     either true h k = h
@@ -126,7 +125,4 @@ module _ {A : Type 0} (R : Arithmetic A) (O : Ops) (inv : O .C → O .C) (_∋_ 
         → Of-answer (λ ρ′. All-divide O inv es ε × ((n : ℕ) → ρ′ n ∋ exacts O inv es ε n)) (run R es ρ)
     run-holds [] ρ ε h = yields (tt, h)
     run-holds ((x ≔ t) ∷ es) ρ ε h = next (work-holds t ρ ε h) λ v p.
-      weaken (run-holds es (keep x v ρ) (keep x (exact O inv t ε) ε) (keep-holds x v _ ρ ε (p .0) h)) λ ρ′ q. ((p .1, q .0), q .1)
-
-    pub equations-hold : Equations-hold R O inv _∋_
-    equations-hold es ρ ρ′ ε h e = yielded (run-holds es ρ ε h) e
+        weaken (run-holds es (keep x v ρ) (keep x (exact O inv t ε) ε) (keep-holds x v _ ρ ε (p .0) h)) λ ρ′ q. ((p .1, q .0), q .1)

@@ -8,10 +8,10 @@ use Rattle.equations.specs.Formula.{Term, Equation, keep, the, one, _≔_}
 
 module _ (O : Ops) (inv : O .C → O .C) where
   open Ops O using (C, _≈_, 𝟘, 𝟙, _+_, _*_, neg)
+
   infix 20 _≈_
   infixl 60 _+_
   infixl 70 _*_
-
   abbrev pub exact : Term → (ℕ → C) → C
   exact (the n) ε = ε n
   exact one ε = 𝟙

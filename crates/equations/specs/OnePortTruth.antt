@@ -5,7 +5,7 @@ use Rattle.exact.specs.Ring.{Ops}
 use Rattle.enclosure.specs.Arithmetic.{known, Arithmetic}
 use Rattle.equations.specs.Exactly.{exacts, All-divide}
 use Rattle.equations.specs.Formula.{at}
-use Rattle.equations.specs.OnePort.{Sol, ThreeTerms, M, embed, with-terms, embedded}
+use Rattle.equations.specs.OnePort.{Sol, ThreeTerms, M, embed, from-device, embedded}
 
 -- ---- an exact analyser is three exact terms
 
@@ -14,11 +14,11 @@ module _ (O : Ops) (inv : O .C → O .C) where
 
   -- the raw value of a device: the embed equations, nothing rounded ..
   abbrev pub raw : ThreeTerms C → C → C
-  raw t s = at (exacts O inv embed (with-terms t s)) M
+  raw t s = at (exacts O inv embed (from-device t s)) M
 
   -- .. and every divisor other than zero
   abbrev pub Raw-exists : ThreeTerms C → C → Type 0
-  Raw-exists t s = All-divide O inv embed (with-terms t s)
+  Raw-exists t s = All-divide O inv embed (from-device t s)
 
   -- of the three standards
   abbrev pub raws : ThreeTerms C → Sol C → Sol C
@@ -31,7 +31,6 @@ module _ (O : Ops) (inv : O .C → O .C) where
 
 module _ {A : Type 0} (O : Ops) (_∋_ : A → O .C → Type 0) where
   infix 20 _∋_
-
   pub record Terms-held (T : ThreeTerms A) (t : ThreeTerms (O .C)) : Type 0 where
     pub ed-held : T .ed ∋ t .ed
     pub es-held : T .es ∋ t .es
@@ -46,12 +45,12 @@ module _ {A : Type 0} (O : Ops) (_∋_ : A → O .C → Type 0) where
 
 module _ {A : Type 0} (R : Arithmetic A) (O : Ops) (inv : O .C → O .C) (_∋_ : A → O .C → Type 0) where
   open Ops O using (C)
-  infix 20 _∋_
 
+  infix 20 _∋_
   -- where the listed values G hold the standards and the readings M their raw values, the terms T hold the analyser's
   abbrev pub Terms-true : Sol A → Sol A → ThreeTerms A → Type 0
   Terms-true G M T = (t : ThreeTerms C) (g : Sol C) → Raws-exist O inv t g
-    → Sol-held O _∋_ G g → Sol-held O _∋_ M (raws O inv t g) → Terms-held O _∋_ T t
+      → Sol-held O _∋_ G g → Sol-held O _∋_ M (raws O inv t g) → Terms-held O _∋_ T t
 
   -- where the terms T hold the analyser's and M the device's raw value, S holds the device
   abbrev pub Device-true : ThreeTerms A → A → A → Type 0

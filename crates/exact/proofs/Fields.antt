@@ -8,12 +8,14 @@ use Rattle.exact.proofs.Normaliser.{E, var, 𝟎, 𝟏, _⊕_, _⊗_, ⊝, _�
 module _ (F : Field) where
   open Ops (F .ring .ops) using (C, _≈_, 𝟘, 𝟙, _+_, _*_, neg)
   open Laws (F .ring .laws) using (rfl, symm, trans, *-cong)
+
   infix 20 _≈_
   infixl 60 _+_
   infixl 70 _*_
   infixr 40 _◃_
   abbrev _◃_ : C → (ℕ → C) → ℕ → C
   x ◃ ρ = _◂_ (F .ring) x ρ
+
   abbrev end : ℕ → C
   end = none (F .ring)
 

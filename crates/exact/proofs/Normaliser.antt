@@ -100,11 +100,10 @@ total (times c l r k) = c ⊗ (l ⊖ r) ⊕ total k
 module _ (R : Ring) where
   open Ops (R .ops) using (C, _≈_, 𝟘, 𝟙, _+_, _*_, neg)
   open Laws (R .laws) using (rfl, symm, trans, +-cong, *-cong, neg-cong, +-assoc, +-comm, +-zero, +-neg, *-assoc, *-comm, *-one, distr)
+
   infix 20 _≈_
   infixl 60 _+_
   infixl 70 _*_
-
-
   infixr 10 _⨾_
   _⨾_ : {x y z : C} → x ≈ y → y ≈ z → x ≈ z
   p ⨾ q = trans p q

@@ -82,14 +82,14 @@ q-sym h = record { real = sym (h .real); imag = sym (h .imag) }
 chain : (a b c : ℤ) (i j k : ℕ) → zero < j → a *ℤ pos j ≡ b *ℤ pos i → b *ℤ pos k ≡ c *ℤ pos j → a *ℤ pos k ≡ c *ℤ pos i
 chain a b c i j k lt h g = cancel (a *ℤ pos k) (c *ℤ pos i) j lt
     (lin ℤR (a ◃ b ◃ c ◃ pos i ◃ pos j ◃ pos k ◃ end)
-      (times (var 5) (var 0 ⊗ var 4) (var 1 ⊗ var 3) (times (var 3) (var 1 ⊗ var 5) (var 2 ⊗ var 4) done))
-      (h, (g, tt)) (var 0 ⊗ var 5 ⊗ var 4) (var 2 ⊗ var 3 ⊗ var 4) refl)
+    (times (var 5) (var 0 ⊗ var 4) (var 1 ⊗ var 3) (times (var 3) (var 1 ⊗ var 5) (var 2 ⊗ var 4) done))
+    (h, (g, tt)) (var 0 ⊗ var 5 ⊗ var 4) (var 2 ⊗ var 3 ⊗ var 4) refl)
 
 q-trans : {x y z : Exact} → x ≃ y → y ≃ z → x ≃ z
 q-trans {x} {y} {z} h g = record {
-    real = chain (x .p) (y .p) (z .p) (x .d) (y .d) (z .d) (y .d-above) (h .real) (g .real);
-    imag = chain (x .q) (y .q) (z .q) (x .d) (y .d) (z .d) (y .d-above) (h .imag) (g .imag)
-  }
+  real = chain (x .p) (y .p) (z .p) (x .d) (y .d) (z .d) (y .d-above) (h .real) (g .real);
+  imag = chain (x .q) (y .q) (z .q) (x .d) (y .d) (z .d) (y .d-above) (h .imag) (g .imag);
+}
 
 -- ---- congruences
 
@@ -99,51 +99,51 @@ env4 x y z u = x .p ◃ x .q ◃ pos (x .d) ◃ y .p ◃ y .q ◃ pos (y .d) ◃
 -- x = y and z = u, as X = Y and Z = U
 add-cong : {x y z u : Exact} → x ≃ y → z ≃ u → add x z ≃ add y u
 add-cong {x} {y} {z} {u} h g = record {
-    real = lin ℤR (env4 x y z u)
+  real = lin ℤR (env4 x y z u)
       (times (Z .d ⊗ U .d) (X .p ⊗ Y .d) (Y .p ⊗ X .d) (times (X .d ⊗ Y .d) (Z .p ⊗ U .d) (U .p ⊗ Z .d) done))
       (h .real, (g .real, tt)) (plus X Z .p ⊗ plus Y U .d) (plus Y U .p ⊗ plus X Z .d) refl;
-    imag = lin ℤR (env4 x y z u)
+  imag = lin ℤR (env4 x y z u)
       (times (Z .d ⊗ U .d) (X .q ⊗ Y .d) (Y .q ⊗ X .d) (times (X .d ⊗ Y .d) (Z .q ⊗ U .d) (U .q ⊗ Z .d) done))
-      (h .imag, (g .imag, tt)) (plus X Z .q ⊗ plus Y U .d) (plus Y U .q ⊗ plus X Z .d) refl
-  }
+      (h .imag, (g .imag, tt)) (plus X Z .q ⊗ plus Y U .d) (plus Y U .q ⊗ plus X Z .d) refl;
+}
 
 mul-cong : {x y z u : Exact} → x ≃ y → z ≃ u → multiply x z ≃ multiply y u
 mul-cong {x} {y} {z} {u} h g = record {
-    real = lin ℤR (env4 x y z u)
+  real = lin ℤR (env4 x y z u)
       (times (Z .p ⊗ U .d) (X .p ⊗ Y .d) (Y .p ⊗ X .d) (times (Y .p ⊗ X .d) (Z .p ⊗ U .d) (U .p ⊗ Z .d)
-        (times (⊝ (Z .q ⊗ U .d)) (X .q ⊗ Y .d) (Y .q ⊗ X .d) (times (⊝ (Y .q ⊗ X .d)) (Z .q ⊗ U .d) (U .q ⊗ Z .d) done))))
+      (times (⊝ (Z .q ⊗ U .d)) (X .q ⊗ Y .d) (Y .q ⊗ X .d) (times (⊝ (Y .q ⊗ X .d)) (Z .q ⊗ U .d) (U .q ⊗ Z .d) done))))
       (h .real, (g .real, (h .imag, (g .imag, tt)))) (mult X Z .p ⊗ mult Y U .d) (mult Y U .p ⊗ mult X Z .d) refl;
-    imag = lin ℤR (env4 x y z u)
+  imag = lin ℤR (env4 x y z u)
       (times (Z .q ⊗ U .d) (X .p ⊗ Y .d) (Y .p ⊗ X .d) (times (Y .p ⊗ X .d) (Z .q ⊗ U .d) (U .q ⊗ Z .d)
-        (times (Z .p ⊗ U .d) (X .q ⊗ Y .d) (Y .q ⊗ X .d) (times (Y .q ⊗ X .d) (Z .p ⊗ U .d) (U .p ⊗ Z .d) done))))
-      (h .real, (g .imag, (h .imag, (g .real, tt)))) (mult X Z .q ⊗ mult Y U .d) (mult Y U .q ⊗ mult X Z .d) refl
-  }
+      (times (Z .p ⊗ U .d) (X .q ⊗ Y .d) (Y .q ⊗ X .d) (times (Y .q ⊗ X .d) (Z .p ⊗ U .d) (U .p ⊗ Z .d) done))))
+      (h .real, (g .imag, (h .imag, (g .real, tt)))) (mult X Z .q ⊗ mult Y U .d) (mult Y U .q ⊗ mult X Z .d) refl;
+}
 
 neg-cong : {x y : Exact} → x ≃ y → negate x ≃ negate y
 neg-cong {x} {y} h = record {
-    real = lin ℤR (env x y x) (times (⊝ 𝟏) (X .p ⊗ Y .d) (Y .p ⊗ X .d) done) (h .real, tt) (⊝ (X .p) ⊗ Y .d) (⊝ (Y .p) ⊗ X .d) refl;
-    imag = lin ℤR (env x y x) (times (⊝ 𝟏) (X .q ⊗ Y .d) (Y .q ⊗ X .d) done) (h .imag, tt) (⊝ (X .q) ⊗ Y .d) (⊝ (Y .q) ⊗ X .d) refl
-  }
+  real = lin ℤR (env x y x) (times (⊝ 𝟏) (X .p ⊗ Y .d) (Y .p ⊗ X .d) done) (h .real, tt) (⊝ (X .p) ⊗ Y .d) (⊝ (Y .p) ⊗ X .d) refl;
+  imag = lin ℤR (env x y x) (times (⊝ 𝟏) (X .q ⊗ Y .d) (Y .q ⊗ X .d) done) (h .imag, tt) (⊝ (X .q) ⊗ Y .d) (⊝ (Y .q) ⊗ X .d) refl;
+}
 
 -- ---- the ring
 
 pub exact-laws : Laws exacts
 exact-laws = record {
-    rfl = q-refl;
-    symm = λ h. q-sym h;
-    trans = λ h g. q-trans h g;
-    +-cong = λ h g. add-cong h g;
-    *-cong = λ h g. mul-cong h g;
-    neg-cong = λ h. neg-cong h;
-    +-assoc = λ x y z. same (law x y z (plus (plus X Y) Z) (plus X (plus Y Z)) refl refl);
-    +-comm = λ x y. same (law x y x (plus X Y) (plus Y X) refl refl);
-    +-zero = λ x. same (law x x x (plus X nil) X refl refl);
-    +-neg = λ x. same (law x x x (plus X (minus X)) nil refl refl);
-    *-assoc = λ x y z. same (law x y z (mult (mult X Y) Z) (mult X (mult Y Z)) refl refl);
-    *-comm = λ x y. same (law x y x (mult X Y) (mult Y X) refl refl);
-    *-one = λ x. same (law x x x (mult X unit) X refl refl);
-    distr = λ x y z. same (law x y z (mult X (plus Y Z)) (plus (mult X Y) (mult X Z)) refl refl)
-  }
+  rfl = q-refl;
+  symm = λ h. q-sym h;
+  trans = λ h g. q-trans h g;
+  +-cong = λ h g. add-cong h g;
+  *-cong = λ h g. mul-cong h g;
+  neg-cong = λ h. neg-cong h;
+  +-assoc = λ x y z. same (law x y z (plus (plus X Y) Z) (plus X (plus Y Z)) refl refl);
+  +-comm = λ x y. same (law x y x (plus X Y) (plus Y X) refl refl);
+  +-zero = λ x. same (law x x x (plus X nil) X refl refl);
+  +-neg = λ x. same (law x x x (plus X (minus X)) nil refl refl);
+  *-assoc = λ x y z. same (law x y z (mult (mult X Y) Z) (mult X (mult Y Z)) refl refl);
+  *-comm = λ x y. same (law x y x (mult X Y) (mult Y X) refl refl);
+  *-one = λ x. same (law x x x (mult X unit) X refl refl);
+  distr = λ x y z. same (law x y z (mult X (plus Y Z)) (plus (mult X Y) (mult X Z)) refl refl);
+}
 
 abbrev pub exact-ring : Ring
 exact-ring = record { ops = exacts; laws = exact-laws }
@@ -161,12 +161,12 @@ exact-inverts x ne = go (norm x) refl
         let z = norm-zero (x .p) (x .q) e in
         absurd (ne (record { real = null (x .p) (x .d) (z .0); imag = null (x .q) (x .d) (z .1) }))
     go (suc n) e = record {
-        real = lin ℤR (x .p ◃ x .q ◃ pos (x .d) ◃ pos (suc n) ◃ end)
+      real = lin ℤR (x .p ◃ x .q ◃ pos (x .d) ◃ pos (suc n) ◃ end)
           (times (var 2) (var 0 ⊗ var 0 ⊕ var 1 ⊗ var 1) (var 3) done) (norm-is (x .p) (x .q) ∙ ap pos e, tt)
           ((var 0 ⊗ (var 0 ⊗ var 2) ⊖ var 1 ⊗ ⊝ (var 1 ⊗ var 2)) ⊗ 𝟏) (𝟏 ⊗ (var 2 ⊗ var 3)) refl;
-        imag = solve ℤR (x .p ◃ x .q ◃ pos (x .d) ◃ pos (suc n) ◃ end)
-          ((var 0 ⊗ ⊝ (var 1 ⊗ var 2) ⊕ var 1 ⊗ (var 0 ⊗ var 2)) ⊗ 𝟏) (𝟎 ⊗ (var 2 ⊗ var 3)) refl
-      }
+      imag = solve ℤR (x .p ◃ x .q ◃ pos (x .d) ◃ pos (suc n) ◃ end)
+          ((var 0 ⊗ ⊝ (var 1 ⊗ var 2) ⊕ var 1 ⊗ (var 0 ⊗ var 2)) ⊗ 𝟏) (𝟎 ⊗ (var 2 ⊗ var 3)) refl;
+    }
 
 abbrev pub exact-numbers : Field
 exact-numbers = record { ring = exact-ring; inv = invert; inverts = exact-inverts }

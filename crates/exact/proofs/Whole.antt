@@ -42,21 +42,21 @@ abbrev pub ℤO : Ops
 
 pub ℤL : Laws ℤO
 ℤL = record {
-    rfl = λ x. refl;
-    symm = λ p. sym p;
-    trans = λ p q. p ∙ q;
-    +-cong = λ p q. ap₂ _+ℤ_ p q;
-    *-cong = λ p q. ap₂ _*ℤ_ p q;
-    neg-cong = λ p. ap negℤ p;
-    +-assoc = +ℤ-assoc;
-    +-comm = +ℤ-comm;
-    +-zero = +ℤ-idr;
-    +-neg = +ℤ-invr;
-    *-assoc = assoc*;
-    *-comm = *ℤ-comm;
-    *-one = mul-one;
-    distr = distr
-  }
+  rfl = λ x. refl;
+  symm = λ p. sym p;
+  trans = λ p q. p ∙ q;
+  +-cong = λ p q. ap₂ _+ℤ_ p q;
+  *-cong = λ p q. ap₂ _*ℤ_ p q;
+  neg-cong = λ p. ap negℤ p;
+  +-assoc = +ℤ-assoc;
+  +-comm = +ℤ-comm;
+  +-zero = +ℤ-idr;
+  +-neg = +ℤ-invr;
+  *-assoc = assoc*;
+  *-comm = *ℤ-comm;
+  *-one = mul-one;
+  distr = distr;
+}
 
 abbrev pub ℤR : Ring
 ℤR = record { ops = ℤO; laws = ℤL }

@@ -12,10 +12,10 @@ pub record Ops : Type 1 where
 
 module _ (O : Ops) where
   open Ops O using (C, _≈_, 𝟘, 𝟙, _+_, _*_, neg)
+
   infix 20 _≈_
   infixl 60 _+_
   infixl 70 _*_
-
   -- of a commutative ring
   pub record Laws : Type 0 where
     pub rfl : (x : C) → x ≈ x

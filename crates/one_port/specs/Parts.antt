@@ -23,11 +23,11 @@ pub record Quotients (A : Type 0) : Type 0 where
 module _ {A : Type 0} (R : Arithmetic A) where
   abbrev pub differenced : Sol A → Sol A → Outcome (Differences A)
   differenced g m = then (run R solve-differences (from-standards g m)) λ ρ.
-    known (record { p3 = at ρ P3; a1 = at ρ a1; a2 = at ρ a2; b1 = at ρ b1; b2 = at ρ b2; c1 = at ρ c1; c2 = at ρ c2 })
+      known (record { p3 = at ρ P3; a1 = at ρ a1; a2 = at ρ a2; b1 = at ρ b1; b2 = at ρ b2; c1 = at ρ c1; c2 = at ρ c2 })
 
   abbrev pub divided : Differences A → Outcome (Quotients A)
   divided d = then (run R solve-quotients (keep a1 (d .a1) (keep a2 (d .a2) (keep b1 (d .b1) (keep b2 (d .b2) (keep c1 (d .c1) (λ _. d .c2)))))))
-    λ ρ. known (record { es = at ρ ES; z = at ρ z })
+      λ ρ. known (record { es = at ρ ES; z = at ρ z })
 
   abbrev pub finished : A → A → A → Quotients A → Outcome (ThreeTerms A)
   finished g m p q = then (run R solve-terms (keep G3 g (keep M3 m (keep P3 p (keep ES (q .es) (λ _. q .z)))))) λ ρ. known (terms-in ρ)

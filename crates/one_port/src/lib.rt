@@ -4,6 +4,7 @@
 //! Every answer is what docs/equations.md works out, unit for unit, and holds the truth.
 mod solve;
 mod transfer;
+
 use disc::Disc;
 
 /// One disc each for the short, the open and the load.

@@ -6,8 +6,10 @@ ghost use Rattle.equations.specs.OnePort.{solved};
 ghost use Rattle.one_port.specs.Meaning.{sol, terms};
 ghost use Rattle.one_port.specs.Parts.{differenced, differences, divided, finished, quotients, solved-in-parts};
 ghost use Rattle.one_port.specs.Truth.{Terms-true};
-use crate::{Sol, ThreeTerms};
-use disc::{Disc, Refusal};
+use crate::Sol;
+use crate::ThreeTerms;
+use disc::Disc;
+use disc::Refusal;
 
 /// P3, and the differences of products, listed values and readings from the load's.
 #[derive(Clone, Copy)]
@@ -40,7 +42,15 @@ fn difference(listed: Sol, read: Sol) -> Result<Differences, Refusal>
     let b2 = listed.open.minus(listed.load)?;
     let c1 = read.short.minus(read.load)?;
     let c2 = read.open.minus(read.load)?;
-    Ok(Differences { p3, a1, a2, b1, b2, c1, c2 })
+    Ok(Differences {
+        p3,
+        a1,
+        a2,
+        b1,
+        b2,
+        c1,
+        c2,
+    })
 }
 
 fn divide(d: Differences) -> Result<Quotients, Refusal>

@@ -6,7 +6,8 @@ ghost use Rattle.equations.specs.OnePort.{corrected, embedded};
 ghost use Rattle.one_port.specs.Meaning.{terms};
 ghost use Rattle.one_port.specs.Truth.{Comes-back, Device-true, Raw-true};
 use crate::ThreeTerms;
-use disc::{Disc, Refusal};
+use disc::Disc;
+use disc::Refusal;
 
 impl ThreeTerms {
     /// The device behind a raw value.

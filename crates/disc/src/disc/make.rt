@@ -4,9 +4,12 @@ ghost use lib.IntN.{pos};
 ghost use Rattle.exact.specs.Numbers.{Exact-field};
 ghost use Rattle.enclosure.specs.Discs.{Discs-enclose, ball, made, one, scaled};
 ghost use Rattle.disc.specs.Meaning.{answer, disc-or-1, meaning};
-use super::{Disc, LIMIT, ONE};
+use super::Disc;
+use super::LIMIT;
+use super::ONE;
 use crate::plain::PlainDisc;
-use crate::refusal::{OutOfRange, Refusal};
+use crate::refusal::OutOfRange;
+use crate::refusal::Refusal;
 
 impl Disc {
     /// The disc of three plain numbers, if they are one.
@@ -28,7 +31,11 @@ impl Disc {
         ensures im { λ p. ⌜ p .im ≡ self .im ⌝ }
         ensures radius { λ p. ⌜ p .radius ≡ pos (self .radius) ⌝ }
     {
-        PlainDisc { re: self.re, im: self.im, radius: self.radius as i64 }
+        PlainDisc {
+            re: self.re,
+            im: self.im,
+            radius: self.radius as i64,
+        }
     }
 
     /// One, with no radius: the unit of an arithmetic that encloses the field of exact numbers.
@@ -36,7 +43,11 @@ impl Disc {
         ensures value { λ d. ⌜ meaning d ≡ one ⌝ }
         ensures laws { λ _. ⌜ Exact-field × Discs-enclose ⌝ }
     {
-        Disc { re: ONE, im: 0, radius: 0 }
+        Disc {
+            re: ONE,
+            im: 0,
+            radius: 0,
+        }
     }
 
     /// A result of an operation; refused where it is off scale.
@@ -53,9 +64,16 @@ impl Disc {
     pub(super) fn wide_on_scale(re: i128, im: i128, radius: u128) -> Result<Disc, Refusal>
         ensures { λ r. ⌜ answer meaning r ≡ scaled (ball re im radius) ⌝ }
     {
-        if re.unsigned_abs() > LIMIT as u128 || im.unsigned_abs() > LIMIT as u128 || radius > LIMIT as u128 {
+        if re.unsigned_abs() > LIMIT as u128
+            || im.unsigned_abs() > LIMIT as u128
+            || radius > LIMIT as u128
+        {
             return Err(Refusal::OffScale);
         }
-        Ok(Disc { re: re as i64, im: im as i64, radius: radius as u64 })
+        Ok(Disc {
+            re: re as i64,
+            im: im as i64,
+            radius: radius as u64,
+        })
     }
 }

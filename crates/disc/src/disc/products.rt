@@ -6,7 +6,8 @@ ghost use Rattle.exact.specs.Numbers.{multiply};
 ghost use Rattle.enclosure.specs.Discs.{U, down, product, size, spread, up};
 ghost use Rattle.disc.specs.Enclosure.{Holds-each};
 ghost use Rattle.disc.specs.Meaning.{answer, meaning};
-use super::{Disc, ONE};
+use super::Disc;
+use super::ONE;
 use crate::refusal::Refusal;
 
 /// The product of two parts, in units of 2^-48.

@@ -14,4 +14,5 @@ pub returns : need.returns
 returns c = record {
   value = equal c;
   truth = device-true (c .args .self) (c .args .raw) _ (equal c);
-  round-trip = comes-back (c .args .self) (c .args .raw) _ (equal c) }
+  round-trip = comes-back (c .args .self) (c .args .raw) _ (equal c);
+}

@@ -7,8 +7,9 @@ use Rattle.disc.proofs.disc.Disc.size.Needs as need
 
 pub returns : need.returns
 returns c =
-  let e : c .root-up .result ≡ size (meaning (c .args .self)) = c .root-up .ensures .value ∙ ap root (c .square .ensures .value) in
-  record {
-    value = e;
-    least = subst (λ (n : ℕ). Least-root (square (meaning (c .args .self))) n) (sym e) (root-is-least _);
-    bound = c .root-up .ensures .bound }
+    let e : c .root-up .result ≡ size (meaning (c .args .self)) = c .root-up .ensures .value ∙ ap root (c .square .ensures .value) in
+    record {
+      value = e;
+      least = subst (λ (n : ℕ). Least-root (square (meaning (c .args .self))) n) (sym e) (root-is-least _);
+      bound = c .root-up .ensures .bound;
+    }
