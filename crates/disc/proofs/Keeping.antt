@@ -1,7 +1,7 @@
 -- From an answer that equals the model's to what it holds.
 use mathlib.Core.Path.{_≡_, sym, _∙_}
 use mathlib.Core.Bool.{Bool}
-use Rattle.exact.specs.Numbers.{Exact, add, subtract, multiply, invert}
+use Rattle.exact.specs.Numbers.{add, subtract, multiply, invert}
 use Rattle.enclosure.specs.Arithmetic.{Outcome, known}
 use Rattle.enclosure.specs.Discs.{Ball, sum, difference, product, reciprocal, touches}
 use Rattle.enclosure.proofs.Enclosing.{discs-enclose}

@@ -1,15 +1,12 @@
--- Numbers of the parts.
-use mathlib.Core.Path.{_≡_, refl, sym, ap, _∙_}
-use Prim.Native.Nat.{ℕ, zero, suc, _+_, _*_, _≤_, _<_, _^_}
+-- What the parts of an answer come to, and the answer that they make.
+use mathlib.Core.Path.{_≡_, refl, ap, _∙_}
+use Prim.Native.Nat.{ℕ, zero, suc, _+_, _*_, _≤_, _^_}
 use native.Mathlib.Nat.{mul-le-mul}
 use native.Mathlib.Omega.{arith}
-use lib.IntN.{ℤ, pos, negsuc, negℤ, natAbs, _*ℤ_}
-use lib.IntN.{_+ℤ_, _-ℤ_}
+use lib.IntN.{ℤ, pos, negsuc, negℤ, natAbs, _+ℤ_, _-ℤ_, _*ℤ_}
 use mir.Syntax.{w64}
 use mir.Val.{SFits, toZ, ofZ}
 use borrow.Author.Differences.{ints}
-use Rattle.std.proofs.shelf.Signed.{toZ-ofZ}
-use Rattle.std.specs.Numbers.{divEuclid}
 use mathlib.Core.Bool.{Bool, true, false, cond}
 use Rattle.enclosure.specs.Discs.{Ball, ranged, in-range, scaled, made, ball, down}
 use Rattle.enclosure.specs.Arithmetic.{Outcome, known, refused}
@@ -24,7 +21,7 @@ abs-neg (pos zero) = refl
 abs-neg (pos (suc n)) = refl
 abs-neg (negsuc n) = refl
 
-pub abs-product : (a b : ℤ) → natAbs (a *ℤ b) ≡ natAbs a * natAbs b
+abs-product : (a b : ℤ) → natAbs (a *ℤ b) ≡ natAbs a * natAbs b
 abs-product (pos a) (pos b) = refl
 abs-product (pos a) (negsuc b) = abs-neg (pos (a * suc b))
 abs-product (negsuc a) (pos b) = abs-neg (pos (suc a * b))
@@ -32,11 +29,6 @@ abs-product (negsuc a) (negsuc b) = refl
 
 pub product-most : (a b : ℤ) (m n : ℕ) → natAbs a ≤ m → natAbs b ≤ n → natAbs (a *ℤ b) ≤ m * n
 product-most a b m n p q = omega (arith, abs-product a b, mul-le-mul p q)
-
--- a quotient by a positive number is rounded down
-pub quotient-down : (z : ℤ) (e : ℕ) → divEuclid z (pos e) ≡ down z e
-quotient-down (pos a) e = refl
-quotient-down (negsuc a) e = refl
 
 pub same-down : {z z′ : ℤ} {e e′ : ℕ} → z ≡ z′ → e ≡ e′ → down z e ≡ down z′ e′
 same-down {z′ = z′} {e = e} p q = ap (λ (y : ℤ). down y e) p ∙ ap (λ (n : ℕ). down z′ n) q

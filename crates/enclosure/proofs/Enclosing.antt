@@ -11,7 +11,7 @@ use Rattle.exact.specs.Numbers.{Exact, _≃_, whole, nought, add, multiply, sub
 use Rattle.exact.specs.Vectors.{Within}
 use Rattle.exact.proofs.Order.{norm-is, to-nat}
 use Rattle.exact.proofs.Vectors.{gap, since}
-use Rattle.enclosure.specs.Arithmetic.{Outcome, known, refused}
+use Rattle.enclosure.specs.Arithmetic.{known, refused}
 use Rattle.enclosure.specs.Discs.{U, Ball, ball, Holds, ranged, scaled, down, up, square, size, root, real-part, imaginary-part, spread, sum, difference, product, reciprocal-by, reciprocal, touches, one, Discs-enclose}
 use Rattle.enclosure.proofs.Rounding.{down-is, rest, rest-less, room, both-less, root-enough}
 use Rattle.enclosure.proofs.Holding as H

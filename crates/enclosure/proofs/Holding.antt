@@ -1,12 +1,12 @@
 -- What discs hold, where one is u units.
 -- Assumes nothing.
-use mathlib.Core.Path.{_≡_, refl, sym, _∙_, ap, subst}
-use Prim.Native.Nat.{ℕ, zero, suc, _+_, _*_, _-_, _≤_, _<_}
+use mathlib.Core.Path.{_≡_, refl}
+use Prim.Native.Nat.{ℕ, zero, _+_, _*_, _-_, _≤_, _<_}
 use native.Mathlib.Omega.{arith}
-use native.Mathlib.Nat.{mul-pos, mul-le-mul-left, suc-mul}
-use lib.IntN.{ℤ, pos, negsuc, natAbs, negℤ, _+ℤ_, _-ℤ_, _*ℤ_}
+use native.Mathlib.Nat.{mul-le-mul-left}
+use lib.IntN.{ℤ, pos, negℤ, _+ℤ_, _-ℤ_, _*ℤ_}
 use Rattle.exact.specs.Numbers.{Exact, _≃_, add, multiply, negate}
-use Rattle.exact.proofs.Normaliser.{E, var, num, 𝟎, 𝟏, _⊕_, _⊗_, ⊝, _⊖_, solve, lin, done, times}
+use Rattle.exact.proofs.Normaliser.{E, var, 𝟎, _⊕_, _⊗_, ⊝, _⊖_, solve, lin, done, times}
 use Rattle.exact.proofs.Whole.{ℤR, _◃_, end}
 use Rattle.exact.specs.Vectors.{Within}
 use Rattle.enclosure.specs.Discs.{Ball, ball}

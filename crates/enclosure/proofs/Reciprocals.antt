@@ -1,10 +1,10 @@
 -- The reciprocal of a disc holds one by each number that the disc holds.
 -- Assumes nothing.
-use mathlib.Core.Path.{_≡_, refl, sym, _∙_, ap, subst}
+use mathlib.Core.Path.{_≡_, refl, _∙_, ap}
 use Prim.Native.Nat.{ℕ, zero, suc, _+_, _*_, _-_, _≤_, _<_}
 use native.Mathlib.Omega.{arith}
-use native.Mathlib.Nat.{mul-pos, mul-le-mul-left, suc-mul}
-use lib.IntN.{ℤ, pos, negsuc, natAbs, negℤ, _+ℤ_, _-ℤ_, _*ℤ_}
+use native.Mathlib.Nat.{mul-pos, mul-le-mul-left}
+use lib.IntN.{ℤ, pos, negℤ, _+ℤ_, _-ℤ_, _*ℤ_}
 use Rattle.exact.specs.Numbers.{Exact, _≃_, nought, norm, invert-by, invert}
 use Rattle.exact.proofs.Normaliser.{E, var, num, 𝟎, 𝟏, _⊕_, _⊗_, ⊝, _⊖_, solve, lin, done, times}
 use Rattle.exact.proofs.Whole.{ℤR, _◃_, end}

@@ -9,7 +9,7 @@ use Rattle.exact.specs.Ring.{Ops}
 use Rattle.enclosure.specs.Arithmetic.{Outcome, known, refused, then, Arithmetic, quotient, Encloses}
 use Rattle.equations.specs.Formula.{Term, Equation, Open, value, sum, difference, product, the, one, _≔_, number, keep, all, products, finish, bracket, addend, factor, brackets, work, run}
 use Rattle.equations.specs.Formula as F
-use Rattle.equations.specs.Exactly.{exact, exacts, Divides, All-divide}
+use Rattle.equations.specs.Exactly.{exactly, run-exactly, Defined, All-defined}
 
 -- what is true of the answer, if there is one
 pub data Of-answer {A : Type 0} (P : A → Type 0) : Outcome A → Type 0 where
@@ -92,7 +92,7 @@ module _ {A : Type 0} (R : Arithmetic A) (O : Ops) (inv : O .C → O .C) (_∋_ 
         weaken (of (R .times x i) λ c. product-held x i c u (inv v) p (g .1)) λ c k. (g .0, k)
 
     brackets-hold : (t : Term) (ρ : ℕ → A) (ε : ℕ → C) → ((n : ℕ) → ρ n ∋ ε n)
-        → Of-answer (λ r. Held r (exact O inv t ε) × Divides O inv t ε) (brackets R t ρ)
+        → Of-answer (λ r. Held r (exactly O inv t ε) × Defined O inv t ε) (brackets R t ρ)
     brackets-hold (the n) ρ ε h = yields (hval (h n), tt)
     brackets-hold one ρ ε h = yields (hval unit-held, tt)
     brackets-hold (F._+_ a b) ρ ε h =
@@ -110,7 +110,7 @@ module _ {A : Type 0} (R : Arithmetic A) (O : Ops) (inv : O .C → O .C) (_∋_ 
         next (quotient-holds x y _ _ p′ q′) λ e k. yields (hval (k .1), (p .1, q .1, k .0))
 
     work-holds : (t : Term) (ρ : ℕ → A) (ε : ℕ → C) → ((n : ℕ) → ρ n ∋ ε n)
-        → Of-answer (λ a. (a ∋ exact O inv t ε) × Divides O inv t ε) (work R t ρ)
+        → Of-answer (λ a. (a ∋ exactly O inv t ε) × Defined O inv t ε) (work R t ρ)
     work-holds t ρ ε h = next (brackets-hold t ρ ε h) λ r p.
         weaken (finish-holds r _ (p .0)) λ a q. (q, p .1)
 
@@ -122,7 +122,7 @@ module _ {A : Type 0} (R : Arithmetic A) (O : Ops) (inv : O .C → O .C) (_∋_ 
     keep-holds t v x ρ ε p h n = either (eqb n (number t)) p (h n)
 
     pub run-holds : (es : List Equation) (ρ : ℕ → A) (ε : ℕ → C) → ((n : ℕ) → ρ n ∋ ε n)
-        → Of-answer (λ ρ′. All-divide O inv es ε × ((n : ℕ) → ρ′ n ∋ exacts O inv es ε n)) (run R es ρ)
+        → Of-answer (λ ρ′. All-defined O inv es ε × ((n : ℕ) → ρ′ n ∋ run-exactly O inv es ε n)) (run R es ρ)
     run-holds [] ρ ε h = yields (tt, h)
     run-holds ((x ≔ t) ∷ es) ρ ε h = next (work-holds t ρ ε h) λ v p.
-        weaken (run-holds es (keep x v ρ) (keep x (exact O inv t ε) ε) (keep-holds x v _ ρ ε (p .0) h)) λ ρ′ q. ((p .1, q .0), q .1)
+        weaken (run-holds es (keep x v ρ) (keep x (exactly O inv t ε) ε) (keep-holds x v _ ρ ε (p .0) h)) λ ρ′ q. ((p .1, q .0), q .1)

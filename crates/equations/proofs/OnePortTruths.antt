@@ -1,10 +1,10 @@
 -- The truth at a point of one port, in every arithmetic that encloses a field.
 -- Assumes nothing.
-use mathlib.Core.Path.{_≡_, refl}
+use mathlib.Core.Path.{_≡_}
 use Prim.Native.Nat.{ℕ}
-use Rattle.exact.specs.Ring.{Ops, Laws, Ring, Field}
-use Rattle.enclosure.specs.Arithmetic.{Outcome, known, refused, then, Arithmetic, Encloses}
-use Rattle.equations.specs.Formula.{Term, number, keep, at}
+use Rattle.exact.specs.Ring.{Ops, Field}
+use Rattle.enclosure.specs.Arithmetic.{known, Arithmetic, Encloses}
+use Rattle.equations.specs.Formula.{Term, number, keep}
 use Rattle.equations.specs.OnePort.{Sol, ThreeTerms, G1, G2, G3, M1, M2, M3, ED, ES, ER, S, M, solve, correct, embed, from-standards, with-terms, from-raw, from-device, solved, corrected, embedded}
 use Rattle.equations.specs.OnePortTruth.{Terms-held, Sol-held, raws, raw, Raw-exists, Terms-true, Device-true, Raw-true, Comes-back}
 use Rattle.equations.proofs.Enclosed.{yields, next, yielded, keep-holds, run-holds}
@@ -23,7 +23,7 @@ module _ {A : Type 0} (R : Arithmetic A) (F : Field) (_∋_ : A → F .ring .ops
 
   standards-held : (G N : Sol A) (g n : Sol C) → Sol-held O _∋_ G g → Sol-held O _∋_ N n → (k : ℕ) → from-standards G N k ∋ from-standards g n k
   standards-held G N g n h k = kept G1 (h .short-held) (kept G2 (h .open-held) (kept G3 (h .load-held)
-    (kept M1 (k .short-held) (kept M2 (k .open-held) (kept M3 (k .load-held) (λ _. k .load-held))))))
+      (kept M1 (k .short-held) (kept M2 (k .open-held) (kept M3 (k .load-held) (λ _. k .load-held))))))
 
   terms-held : {T : ThreeTerms A} {t : ThreeTerms C} {ρ : ℕ → A} {ε : ℕ → C} → Terms-held O _∋_ T t → ((k : ℕ) → ρ k ∋ ε k) → (k : ℕ) → with-terms T ρ k ∋ with-terms t ε k
   terms-held h k = kept ED (h .ed-held) (kept ES (h .es-held) (kept ER (h .er-held) k))

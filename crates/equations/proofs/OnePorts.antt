@@ -2,9 +2,9 @@
 -- Assumes nothing.
 use mathlib.Core.Path.{_≡_, refl}
 use Prim.Native.Nat.{ℕ}
-use Rattle.exact.specs.Ring.{Ops, Laws, Ring, Field, Inverts}
+use Rattle.exact.specs.Ring.{Ops, Field}
 use Rattle.exact.proofs.Normaliser.{E, norm, var, 𝟎, 𝟏, _⊕_, _⊗_, ⊝, _⊖_, lin, done, times, _◂_, none}
-use Rattle.equations.specs.Exactly.{exacts}
+use Rattle.equations.specs.Exactly.{run-exactly}
 use Rattle.equations.specs.Formula.{at}
 use Rattle.equations.specs.OnePort.{Sol, ThreeTerms, ED, ES, ER, P3, a1, a2, b1, b2, V, z, m, S, solve, correct, from-standards, from-raw}
 use Rattle.equations.specs.OnePortTruth.{raw, Raw-exists, raws, Raws-exist}
@@ -15,7 +15,7 @@ quoted = record { C = E; _≈_ = λ a b. norm a ≡ norm b; 𝟘 = 𝟎; 𝟙 = 
 
 -- the quantities of solve: the standards 0 to 2, their readings 3 to 5, the terms 6 to 8, and 9 the inverse of V
 abbrev q : ℕ → E
-q n = exacts quoted (λ _. var 9) solve (from-standards (record { short = var 0; «open» = var 1; load = var 2 }) (record { short = var 3; «open» = var 4; load = var 5 })) n
+q n = run-exactly quoted (λ _. var 9) solve (from-standards (record { short = var 0; «open» = var 1; load = var 2 }) (record { short = var 3; «open» = var 4; load = var 5 })) n
 
 abbrev ed : E
 ed = var 6
@@ -56,7 +56,7 @@ module _ (F : Field) where
       ((var 0 ⊕ (var 1 ⊗ var 3) ⊗ var 4) ⊗ d) (var 0 ⊗ d ⊕ var 1 ⊗ var 3) refl
 
   abbrev found : Sol C → Sol C → ℕ → C
-  found g r = exacts (F .ring .ops) (F .inv) solve (from-standards g r)
+  found g r = run-exactly (F .ring .ops) (F .inv) solve (from-standards g r)
 
   pub terms-are : (t : ThreeTerms C) (g : Sol C) → Raws-exist (F .ring .ops) (F .inv) t g
       → let e = found g (raws (F .ring .ops) (F .inv) t g) in
@@ -85,7 +85,7 @@ module _ (F : Field) where
       (ed-is, es-is, er-is)
 
   abbrev back : ThreeTerms C → C → ℕ → C
-  back t r = exacts (F .ring .ops) (F .inv) correct (from-raw t r)
+  back t r = run-exactly (F .ring .ops) (F .inv) correct (from-raw t r)
 
   pub device-is : (t : ThreeTerms C) (s : C) → Raw-exists (F .ring .ops) (F .inv) t s
       → let e = back t (raw (F .ring .ops) (F .inv) t s) in ¬ (t .er + at e m * t .es ≈ 𝟘) → at e S ≈ s

@@ -12,27 +12,27 @@ module _ (O : Ops) (inv : O .C → O .C) where
   infix 20 _≈_
   infixl 60 _+_
   infixl 70 _*_
-  abbrev pub exact : Term → (ℕ → C) → C
-  exact (the n) ε = ε n
-  exact one ε = 𝟙
-  exact (F._+_ a b) ε = exact a ε + exact b ε
-  exact (F._-_ a b) ε = exact a ε + neg (exact b ε)
-  exact (F._*_ a b) ε = exact a ε * exact b ε
-  exact (F._/_ a b) ε = exact a ε * inv (exact b ε)
+  abbrev pub exactly : Term → (ℕ → C) → C
+  exactly (the n) ε = ε n
+  exactly one ε = 𝟙
+  exactly (F._+_ a b) ε = exactly a ε + exactly b ε
+  exactly (F._-_ a b) ε = exactly a ε + neg (exactly b ε)
+  exactly (F._*_ a b) ε = exactly a ε * exactly b ε
+  exactly (F._/_ a b) ε = exactly a ε * inv (exactly b ε)
 
-  abbrev pub exacts : List Equation → (ℕ → C) → ℕ → C
-  exacts [] ε = ε
-  exacts ((x ≔ t) ∷ es) ε = exacts es (keep x (exact t ε) ε)
+  abbrev pub run-exactly : List Equation → (ℕ → C) → ℕ → C
+  run-exactly [] ε = ε
+  run-exactly ((x ≔ t) ∷ es) ε = run-exactly es (keep x (exactly t ε) ε)
 
   -- every divisor is other than zero
-  abbrev pub Divides : Term → (ℕ → C) → Type 0
-  Divides (the n) ε = Unit {0}
-  Divides one ε = Unit {0}
-  Divides (F._+_ a b) ε = Divides a ε × Divides b ε
-  Divides (F._-_ a b) ε = Divides a ε × Divides b ε
-  Divides (F._*_ a b) ε = Divides a ε × Divides b ε
-  Divides (F._/_ a b) ε = Divides a ε × Divides b ε × (¬ (exact b ε ≈ 𝟘))
+  abbrev pub Defined : Term → (ℕ → C) → Type 0
+  Defined (the n) ε = Unit {0}
+  Defined one ε = Unit {0}
+  Defined (F._+_ a b) ε = Defined a ε × Defined b ε
+  Defined (F._-_ a b) ε = Defined a ε × Defined b ε
+  Defined (F._*_ a b) ε = Defined a ε × Defined b ε
+  Defined (F._/_ a b) ε = Defined a ε × Defined b ε × (¬ (exactly b ε ≈ 𝟘))
 
-  abbrev pub All-divide : List Equation → (ℕ → C) → Type 0
-  All-divide [] ε = Unit {0}
-  All-divide ((x ≔ t) ∷ es) ε = Divides t ε × All-divide es (keep x (exact t ε) ε)
+  abbrev pub All-defined : List Equation → (ℕ → C) → Type 0
+  All-defined [] ε = Unit {0}
+  All-defined ((x ≔ t) ∷ es) ε = Defined t ε × All-defined es (keep x (exactly t ε) ε)

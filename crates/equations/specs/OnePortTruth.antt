@@ -3,7 +3,7 @@
 use mathlib.Core.Path.{_≡_}
 use Rattle.exact.specs.Ring.{Ops}
 use Rattle.enclosure.specs.Arithmetic.{known, Arithmetic}
-use Rattle.equations.specs.Exactly.{exacts, All-divide}
+use Rattle.equations.specs.Exactly.{run-exactly, All-defined}
 use Rattle.equations.specs.Formula.{at}
 use Rattle.equations.specs.OnePort.{Sol, ThreeTerms, M, embed, from-device, embedded}
 
@@ -14,11 +14,11 @@ module _ (O : Ops) (inv : O .C → O .C) where
 
   -- the raw value of a device: the embed equations, nothing rounded ..
   abbrev pub raw : ThreeTerms C → C → C
-  raw t s = at (exacts O inv embed (from-device t s)) M
+  raw t s = at (run-exactly O inv embed (from-device t s)) M
 
   -- .. and every divisor other than zero
   abbrev pub Raw-exists : ThreeTerms C → C → Type 0
-  Raw-exists t s = All-divide O inv embed (from-device t s)
+  Raw-exists t s = All-defined O inv embed (from-device t s)
 
   -- of the three standards
   abbrev pub raws : ThreeTerms C → Sol C → Sol C

@@ -1,6 +1,5 @@
 pub mod Normaliser
 pub mod Whole
-pub mod Fields
 pub mod Order
 pub mod Vectors
 pub mod Numbers

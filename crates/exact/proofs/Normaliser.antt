@@ -1,7 +1,7 @@
 -- A normaliser for polynomial expressions, and the proof that it keeps their value in every commutative ring.
 -- A normal form is `con c`, or `node p q`, which is p(x₁, x₂, ..) + x₀ q(x₀, x₁, ..).
 -- Assumes nothing.
-use mathlib.Core.Path.{_≡_, refl, sym, subst}
+use mathlib.Core.Path.{_≡_, subst}
 use Prim.Native.Nat.{ℕ, zero, suc}
 use lib.IntN as I
 use lib.IntN.{ℤ, pos, negsuc, sucℤ, predℤ, negℤ, _+ℤ_, _*ℤ_}

@@ -4,9 +4,9 @@ use mathlib.Core.Path.{_≡_, refl, sym, _∙_, ap}
 use Prim.Native.Nat.{ℕ, zero, suc, _+_, _*_, _<_}
 use native.Mathlib.Nat.{suc-mul}
 use native.Mathlib.Omega.{arith}
-use lib.IntN.{ℤ, pos, negsuc, natAbs, negℤ, negℤ-negℤ, _+ℤ_, _-ℤ_, _*ℤ_}
-use Rattle.exact.specs.Ring.{Ops, Laws, Inverts, Ring, Field}
-use Rattle.exact.specs.Numbers.{Exact, exacts, _≃_, whole, add, multiply, negate, norm, invert-by, invert, Exact-field}
+use lib.IntN.{ℤ, pos, negsuc, natAbs, negℤ, negℤ-negℤ, _-ℤ_, _*ℤ_}
+use Rattle.exact.specs.Ring.{Laws, Inverts, Ring, Field}
+use Rattle.exact.specs.Numbers.{Exact, exacts, _≃_, whole, nought, add, multiply, negate, norm, invert-by, invert, Exact-field}
 use Rattle.exact.proofs.Normaliser.{E, norm as normal, var, 𝟎, 𝟏, _⊕_, _⊗_, ⊝, _⊖_, solve, lin, done, times, ⟦_⟧, zero-diff}
 use Rattle.exact.proofs.Whole.{ℤR, _◃_, end}
 use Rattle.exact.proofs.Order.{norm-is, norm-zero}
@@ -171,5 +171,8 @@ exact-inverts x ne = go (norm x) refl
 abbrev pub exact-numbers : Field
 exact-numbers = record { ring = exact-ring; inv = invert; inverts = exact-inverts }
 
+one-is-not-nought : ¬ (whole (pos (suc zero)) ≃ nought)
+one-is-not-nought e = let z : _≡_ {A = ℕ} 1 0 = ap natAbs (e .real) in omega arith
+
 pub exact-field : Exact-field
-exact-field = (exact-laws, exact-inverts)
+exact-field = (exact-laws, exact-inverts, one-is-not-nought)

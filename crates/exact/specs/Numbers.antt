@@ -60,4 +60,4 @@ exacts = record { C = Exact; _≈_ = _≃_; 𝟘 = nought; 𝟙 = whole (pos (su
 
 -- the exact numbers are a field
 abbrev pub Exact-field : Type 0
-Exact-field = Laws exacts × Inverts exacts invert
+Exact-field = Laws exacts × Inverts exacts invert × (¬ (whole (pos (suc zero)) ≃ nought))

@@ -1,6 +1,6 @@
 -- The figures are right, and the order of work is that of the examples.
-use mathlib.Core.Path.{_≡_, refl, sym, ap, _∙_}
-use Prim.Native.Nat.{ℕ, _*_, _+_, _^_}
+use mathlib.Core.Path.{_≡_, refl, sym}
+use Prim.Native.Nat.{_^_}
 use native.Mathlib.Omega.{arith}
 use Rattle.enclosure.specs.Discs.{root, ranged, product, reciprocal, reciprocal-by, touches}
 use Rattle.enclosure.proofs.Outcomes.{then-then, then-end}

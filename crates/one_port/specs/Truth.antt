@@ -1,5 +1,4 @@
 -- The truth at a point, of the code's answers.
-use mathlib.Core.Path.{_≡_}
 use Rattle.exact.specs.Numbers.{exacts, invert}
 use Rattle.enclosure.specs.Discs.{Holds, discs}
 use Rattle.disc.specs.Enclosure.{If-accepted}

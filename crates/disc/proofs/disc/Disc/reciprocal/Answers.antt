@@ -2,7 +2,7 @@ use mathlib.Core.Path.{_≡_, sym, _∙_}
 use native.Mathlib.Omega.{arith}
 use borrow.Author.Differences.{ints}
 use borrow.Author.Needs.{needs}
-use Prim.Native.Nat.{_*_, _-_, _^_}
+use Prim.Native.Nat.{_*_, _-_}
 use Rattle.std.proofs.shelf.Tests.{cond-true, cond-false, le-leb, lt-leb}
 use mir.Syntax.{w128}
 use mir.Val.{SFits}

@@ -1,5 +1,3 @@
-use mathlib.Core.Path.{refl}
-use Prim.Native.Nat.{_^_, _*_, _≤_}
 use native.Mathlib.Omega.{arith}
 use native.Mathlib.Nat.{mul-le-mul}
 use Rattle.disc.proofs.disc.products.reach.Needs as need
