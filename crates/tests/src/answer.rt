@@ -4,6 +4,12 @@ use disc::OutOfRange;
 use disc::PlainDisc;
 use disc::Refusal;
 
+/// One, in units.
+pub(crate) const U: i64 = 16_777_216;
+
+/// The limit of parts and radius, in units.
+pub(crate) const L: i64 = 1_073_741_824;
+
 /// Re, im and radius.
 pub(crate) type Numbers = (i64, i64, i64);
 

@@ -4,7 +4,9 @@ use crate::answer::Answer::Is;
 use crate::answer::Answer::Refused;
 use crate::answer::AnswerDebug;
 use crate::answer::AnswerPartialEq;
+use crate::answer::L;
 use crate::answer::Numbers;
+use crate::answer::U;
 use crate::answer::disc;
 use crate::answer::told;
 use disc::OutOfRange;
@@ -69,12 +71,6 @@ fn lossy_round_trip() -> Result<(), Fail> {
     check_eq(told(Ok(raw)), Is(5_555_667, 5_511_553, 43))?;
     check_eq(told(terms.correct(raw)), Is(5_592_403, 4_793_488, 87))
 }
-
-/// L units.
-const L: i64 = 1_073_741_824;
-
-/// One.
-const U: i64 = 16_777_216;
 
 fn solved(listed: Sol, read: Sol) -> Answer {
     match ThreeTerms::solve(listed, read) {
