@@ -46,19 +46,15 @@ sum-read p q h k e f = rw (← e, ← f) (omega (arith, ints))
 pub difference-read : (p q : ℤ) {x y : ℤ} → natAbs p ≤ 2 ^ 60 → natAbs q ≤ 2 ^ 60 → p ≡ x → q ≡ y → toZ w64 (ofZ w64 (toZ w64 (ofZ w64 p) -ℤ toZ w64 (ofZ w64 q))) ≡ x -ℤ y
 difference-read p q h k e f = rw (← e, ← f) (omega (arith, ints))
 
--- what is on scale is a disc, and what is off scale is none
-pub made-known : {x x′ y y′ z : ℤ} {n : ℕ} {c : Ball} → x ≡ x′ → y ≡ y′ → z ≡ pos n → known c ≡ scaled (ball x y n) → known c ≡ made x′ y′ z
-unfolding ranged
-made-known {x} {x′} {y} {y′} {z} {n} {c} p q r e = rw (← p, ← q, r) (go (in-range (ball x y n)) e)
-  where
-    go : (t : Bool) → known c ≡ cond t (known (ball x y n)) (refused 9) → known c ≡ cond t (known (ball x y n)) (refused 1)
-    go true e = e
-    go false e = let z : _≡_ {A = ℕ} 0 1 = cc in absurd (omega arith)
+-- what is on scale is a disc, and what is off scale is none, refused by 1
+abbrev pub by-1 : Outcome Ball → Outcome Ball
+by-1 (known b) = known b
+by-1 (refused k) = refused 1
 
-pub made-refused : {x x′ y y′ z : ℤ} {n k : ℕ} → x ≡ x′ → y ≡ y′ → z ≡ pos n → refused k ≡ scaled (ball x y n) → refused 1 ≡ made x′ y′ z
+pub made-is : {o : Outcome Ball} {x x′ y y′ z : ℤ} {n : ℕ} → o ≡ scaled (ball x y n) → x ≡ x′ → y ≡ y′ → z ≡ pos n → by-1 o ≡ made x′ y′ z
 unfolding ranged
-made-refused {x} {x′} {y} {y′} {z} {n} {k} p q r e = rw (← p, ← q, r) (go (in-range (ball x y n)) e)
+made-is {x = x} {y = y} {n = n} e p q r = rw (e, ← p, ← q, r) (go (in-range (ball x y n)))
   where
-    go : (t : Bool) → refused k ≡ cond t (known (ball x y n)) (refused 9) → refused 1 ≡ cond t (known (ball x y n)) (refused 1)
-    go true e = let z : _≡_ {A = ℕ} 0 1 = cc in absurd (omega arith)
-    go false e = refl
+    go : (t : Bool) → by-1 (cond t (known (ball x y n)) (refused 9)) ≡ cond t (known (ball x y n)) (refused 1)
+    go true = refl
+    go false = refl

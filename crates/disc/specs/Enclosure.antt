@@ -12,8 +12,8 @@ use Rattle.std.specs.declared.result.Result.the-variants.{Ok, Err}
 abbrev pub Has : Disc → Exact → Type 0
 Has d x = Holds (meaning d) x
 
-abbrev pub If-accepted : Result Disc Refusal → (Disc → Type 0) → Type 0
-If-accepted (Ok d) P = P d
+abbrev pub If-accepted : {X : Type 0} → Result X Refusal → (X → Type 0) → Type 0
+If-accepted (Ok x) P = P x
 If-accepted (Err e) P = Unit {0}
 
 -- f of any numbers that a and b hold

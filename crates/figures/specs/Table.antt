@@ -23,12 +23,12 @@ abbrev pub All-right : List Figure → Type 0
 All-right [] = Unit {0}
 All-right (f ∷ fs) = Right f × All-right fs
 
-abbrev pub starred : List Figure
-starred =
+abbrev pub table : List Figure
+table =
     size-is (ball (pos 3) (pos 4) 0) 5
     ∷ size-is (ball (pos 1) (pos 1) 0) 2
     ∷ product-is (ball (pos U) (pos 0) 0) (ball (pos U) (pos 0) 0) (known (ball (pos U) (pos 0) 2))
-    -- -1, where negsuc 0 is -1
+    -- negsuc 0 is -1
     ∷ product-is (ball (negsuc 0) (pos 0) 0) (ball (pos 1) (pos 0) 0) (known (ball (negsuc 0) (pos 0) 2))
     ∷ reciprocal-is (ball (pos U) (pos 0) 8388608) (known (ball (pos 22369621) (pos 0) 11184813))
     ∷ reciprocal-is (ball (pos 262144) (pos 0) 0) (known (ball (pos L) (pos 0) 2))

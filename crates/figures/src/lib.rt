@@ -2,12 +2,12 @@
 ghost use mathlib.Core.Path.{_≡_};
 ghost use lib.ListN.{length};
 ghost use Rattle.figures.specs.Order.{Order};
-ghost use Rattle.figures.specs.Table.{All-right, starred};
+ghost use Rattle.figures.specs.Table.{All-right, table};
 
-/// How many figures the table has, each of which is right.
-pub fn starred() -> usize
-    ensures count { λ n. ⌜ n ≡ length starred ⌝ }
-    ensures right { λ _. ⌜ All-right starred ⌝ }
+/// How many figures the table has. Each is right.
+pub fn proved() -> usize
+    ensures count { λ n. ⌜ n ≡ length table ⌝ }
+    ensures right { λ _. ⌜ All-right table ⌝ }
     ensures order { λ _. ⌜ Order ⌝ }
 {
     10

@@ -10,12 +10,10 @@ use Rattle.one_port.specs.Meaning.{sol, terms}
 use Rattle.one_port.specs.declared.Sol.{Sol}
 use Rattle.one_port.specs.declared.ThreeTerms.{ThreeTerms}
 use Rattle.std.specs.declared.result.Result.{Result}
-use Rattle.std.specs.declared.result.Result.the-variants.{Ok, Err}
 
 -- accepted terms hold those of every exact analyser whose standards are held as listed, and their raw values as read
 abbrev pub Terms-true : Sol → Sol → Result ThreeTerms Refusal → Type 0
-Terms-true listed read (Ok t) = Model.Terms-true discs exacts invert Holds (sol listed) (sol read) (terms t)
-Terms-true listed read (Err e) = Unit {0}
+Terms-true listed read r = If-accepted r λ t. Model.Terms-true discs exacts invert Holds (sol listed) (sol read) (terms t)
 
 -- an accepted answer holds every device whose raw value is held
 abbrev pub Device-true : ThreeTerms → Disc → Result Disc Refusal → Type 0

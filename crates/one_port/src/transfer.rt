@@ -9,6 +9,22 @@ use crate::ThreeTerms;
 use disc::Disc;
 use disc::Refusal;
 
+fn raw_to_actual(t: ThreeTerms, raw: Disc) -> Result<Disc, Refusal>
+    ensures { λ r. ⌜ answer meaning r ≡ corrected discs (terms t) (meaning raw) ⌝ }
+{
+    let m = raw.minus(t.ed)?;
+    let d = t.er.plus(m.times(t.es)?)?;
+    m.over(d)
+}
+
+fn actual_to_raw(t: ThreeTerms, actual: Disc) -> Result<Disc, Refusal>
+    ensures { λ r. ⌜ answer meaning r ≡ embedded discs (terms t) (meaning actual) ⌝ }
+{
+    let n = t.er.times(actual)?;
+    let d = Disc::one().minus(t.es.times(actual)?)?;
+    t.ed.plus(n.over(d)?)
+}
+
 impl ThreeTerms {
     /// The device behind a raw value.
     pub fn correct(self, raw: Disc) -> Result<Disc, Refusal>
@@ -16,9 +32,7 @@ impl ThreeTerms {
         ensures truth { λ r. ⌜ Device-true self raw r ⌝ }
         ensures round_trip { λ r. ⌜ Comes-back self raw r ⌝ }
     {
-        let m = raw.minus(self.ed)?;
-        let d = self.er.plus(m.times(self.es)?)?;
-        m.over(d)
+        raw_to_actual(self, raw)
     }
 
     /// The raw value of a device.
@@ -26,8 +40,6 @@ impl ThreeTerms {
         ensures value { λ r. ⌜ answer meaning r ≡ embedded discs (terms self) (meaning actual) ⌝ }
         ensures truth { λ r. ⌜ Raw-true self actual r ⌝ }
     {
-        let n = self.er.times(actual)?;
-        let d = Disc::one().minus(self.es.times(actual)?)?;
-        self.ed.plus(n.over(d)?)
+        actual_to_raw(self, actual)
     }
 }
