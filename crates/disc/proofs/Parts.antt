@@ -1,5 +1,5 @@
 -- What the parts of an answer come to, and the answer that they make.
-use Rattle.std.proofs.Common.{◌≡◌, ℕ, zero, suc, ◌+◌, ◌*◌, ◌^◌, ◌≤◌, Bool, true, false, cond, [], ℤ, pos, negsuc, ◌+ℤ◌, ◌-ℤ◌, ◌*ℤ◌, neg_ℤ, nat_abs, refl, ap, ◌∙◌, mul-le-mul, arith, w64, SFits, to_z, of_z}
+use Rattle.std.proofs.Common.{◌≡◌, ℕ, zero, suc, ◌+◌, ◌*◌, ◌^◌, ◌≤◌, Bool, true, false, cond, ℤ, pos, negsuc, ◌+ℤ◌, ◌-ℤ◌, ◌*ℤ◌, neg_ℤ, nat_abs, refl, ap, ◌∙◌, mul-le-mul, arith, w64, SFits, to_z, of_z}
 use borrow.Author.Differences.{ints}
 use Rattle.enclosure.specs.Discs.{Ball, ranged, in_range, scaled, made, ball, down}
 use Rattle.enclosure.specs.Arithmetic.{Outcome, known, refused}
@@ -42,12 +42,12 @@ difference_read p q h k e f = rw (← e, ← f) (omega (arith, ints))
 -- what is on scale is a disc, and what is off scale is none, refused by 1
 abbrev pub by_1 : Outcome Ball → Outcome Ball
 by_1 (known b) = known b
-by_1 (refused k vs) = refused 1 []
+by_1 (refused k) = refused 1
 
 pub made_is : {o : Outcome Ball} {x x' y y' z : ℤ} {n : ℕ} → o ≡ scaled (ball x y n) → x ≡ x' → y ≡ y' → z ≡ pos n → by_1 o ≡ made x' y' z
 unfolding ranged
 made_is {x = x} {y = y} {n = n} e p q r = rw (e, ← p, ← q, r) (go (in_range (ball x y n)))
   where
-    go : (t : Bool) → by_1 (cond t (known (ball x y n)) (refused 9 [])) ≡ cond t (known (ball x y n)) (refused 1 [])
+    go : (t : Bool) → by_1 (cond t (known (ball x y n)) (refused 9)) ≡ cond t (known (ball x y n)) (refused 1)
     go true = refl
     go false = refl

@@ -9,7 +9,7 @@ use Rattle.disc.specs.declared.refusal.Refusal.{Refusal}
 abbrev pub Has : Disc → Exact → Type 0
 Has d x = Holds (meaning d) x
 
-abbrev pub IfAccepted : {X E : Type 0} → Result X E → (X → Type 0) → Type 0
+abbrev pub IfAccepted : {X : Type 0} → Result X Refusal → (X → Type 0) → Type 0
 IfAccepted (Ok x) P = P x
 IfAccepted (Err e) P = Unit {0}
 

@@ -2,6 +2,8 @@
 //!
 //! Every operation answers what docs/discs.md works out, unit for unit, and its answer holds what
 //! comes out for any exact numbers that its operands hold.
+#![tactic(auto)]
+
 mod disc;
 mod plain;
 mod refusal;

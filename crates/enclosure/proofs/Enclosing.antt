@@ -1,13 +1,13 @@
 -- The arithmetic of discs encloses the exact numbers.
 -- Assumes nothing.
-use Rattle.std.proofs.Common.{◌≡◌, ℕ, zero, suc, ◌+◌, ◌-◌, ◌*◌, ◌^◌, ◌<◌, ◌≤◌, Bool, true, false, cond, leb, List, [], ℤ, pos, ◌+ℤ◌, ◌-ℤ◌, ◌*ℤ◌, neg_ℤ, sym, refl, ap, ◌∙◌, subst, arith}
+use Rattle.std.proofs.Common.{◌≡◌, ℕ, zero, suc, ◌+◌, ◌-◌, ◌*◌, ◌^◌, ◌<◌, ◌≤◌, Bool, true, false, cond, leb, ℤ, pos, ◌+ℤ◌, ◌-ℤ◌, ◌*ℤ◌, neg_ℤ, sym, refl, ap, ◌∙◌, subst, arith}
 use Rattle.std.proofs.lemmas.Bool.{leb-false, le-leb}
 use Rattle.exact.specs.Numbers.{Exact, ◌≃◌, whole, nought, add, multiply, subtract, negate, invert}
 use Rattle.exact.specs.Vectors.{Within}
 use Rattle.exact.proofs.Order.{norm_is, to_nat}
 use Rattle.exact.proofs.Vectors.{gap, since}
 use Rattle.enclosure.specs.Arithmetic.{known, refused}
-use Rattle.enclosure.specs.Discs.{U, Ball, ball, Holds, ranged, scaled, down, up, square, size, root, real_part, imaginary_part, spread, sum, difference, product, reciprocal_by, reciprocal, touches, origin, one, DiscsEnclose}
+use Rattle.enclosure.specs.Discs.{U, Ball, ball, Holds, ranged, scaled, down, up, square, size, root, real_part, imaginary_part, spread, sum, difference, product, reciprocal_by, reciprocal, touches, one, DiscsEnclose}
 use Rattle.enclosure.proofs.Rounding.{down_is, rest, rest_less, room, both_less, root_enough}
 use Rattle.enclosure.proofs.Holding as H
 use Rattle.enclosure.proofs.Reciprocals as R
@@ -17,10 +17,10 @@ U_above = omega arith
 
 -- ---- a known answer is not refused, and is the disc that was on scale
 
-never : {P : Type 0} {k : ℕ} {vs : List ℕ} {c : Ball} → refused k vs ≡ known c → P
+never : {P : Type 0} {k : ℕ} {c : Ball} → refused k ≡ known c → P
 never e = let z : ◌≡◌ {A = ℕ} 0 1 = cc in absurd (omega arith)
 
-either : (t : Bool) (k : ℕ) (b c : Ball) → cond t (known b) (refused k []) ≡ known c → b ≡ c
+either : (t : Bool) (k : ℕ) (b c : Ball) → cond t (known b) (refused k) ≡ known c → b ≡ c
 either true k b c e = cc
 either false k b c e = never e
 
@@ -39,10 +39,6 @@ centre_held a = H.middle_held U a.re a.im (a.radius * U)
 
 same : (a : Ball) (x y : Exact) → x ≃ y → Holds a x → Holds a y
 same = H.same U
-
-zero_held : Holds origin nought
-unfolding centre
-zero_held = same origin (centre origin) nought (record { real = refl; imag = refl }) (centre_held origin)
 
 unit_held : Holds one (whole (pos (suc zero)))
 unfolding centre
@@ -98,7 +94,7 @@ unfolding reciprocal
 inverse_held a c x h k = go (leb (square a) (a.radius * a.radius)) refl k
   where
     go : (b : Bool) → leb (square a) (a.radius * a.radius) ≡ b
-        → cond b (refused 8 []) (reciprocal_by (square a - a.radius * a.radius) a) ≡ known c → (¬ (x ≃ nought)) × Holds c (invert x)
+        → cond b (refused 8) (reciprocal_by (square a - a.radius * a.radius) a) ≡ known c → (¬ (x ≃ nought)) × Holds c (invert x)
     go true l k = never k
     go false l k =
         let big = leb-false _ _ l in
@@ -119,7 +115,6 @@ pub discs_enclose : DiscsEnclose
 discs_enclose = record {
   some_held = λ a. (centre a, centre_held a);
   same_held = same;
-  zero_held = zero_held;
   unit_held = unit_held;
   sum_held = sum_held;
   difference_held = difference_held;

@@ -1,25 +1,19 @@
 -- An arithmetic: values to calculate with, by operations that may be refused, and the laws that tie them to exact numbers.
 -- Assumes nothing.
-use Rattle.std.specs.Prelude.{◌≡◌, ℕ, Bool, true, List, ◌∷◌}
+use Rattle.std.specs.Prelude.{◌≡◌, ℕ, Bool, true}
 use Rattle.exact.specs.Ring.{Ops}
 
--- an answer, or a refusal: the number of its cause, and the values that it returns with it
+-- an answer, or a refusal by the number of its cause
 pub data Outcome (A : Type 0) : Type 0 where
   known : A → Outcome A
-  refused : ℕ → List ℕ → Outcome A
+  refused : ℕ → Outcome A
 
 -- the next step, unless this one was refused
 abbrev pub then : {A B : Type 0} → Outcome A → (A → Outcome B) → Outcome B
 then (known a) f = f a
-then (refused k vs) f = refused k vs
-
--- a refusal gets one value more, in front
-abbrev pub noting : {A : Type 0} → ℕ → Outcome A → Outcome A
-noting n (known a) = known a
-noting n (refused k vs) = refused k (n ∷ vs)
+then (refused k) f = refused k
 
 pub record Arithmetic (A : Type 0) : Type 0 where
-  pub zero : A
   pub unit : A
   pub plus : A → A → Outcome A
   pub minus : A → A → Outcome A
@@ -45,7 +39,6 @@ module _ {A : Type 0} (R : Arithmetic A) (O : Ops) (inv : O.C → O.C) (◌∋�
     pub some_held : (a : A) → (x : C) × (a ∋ x)
     pub same_held : (a : A) (x y : C) → x ≈ y → a ∋ x → a ∋ y
     -- the results of members are members of the result
-    pub zero_held : R.zero ∋ 𝟘
     pub unit_held : R.unit ∋ 𝟙
     pub sum_held : (a b c : A) (x y : C) → a ∋ x → b ∋ y → R.plus a b ≡ known c → c ∋ x + y
     pub difference_held : (a b c : A) (x y : C) → a ∋ x → b ∋ y → R.minus a b ≡ known c → c ∋ x + neg y

@@ -1,6 +1,6 @@
 -- Discs: what each operation answers, and which exact numbers a disc holds.
 -- Assumes nothing.
-use Rattle.std.specs.Prelude.{ℕ, zero, suc, ◌+◌, ◌-◌, ◌*◌, ◌/◌, ◌%◌, ◌^◌, ◌≤◌, min, Bool, cond, ◌&&◌, [], ℤ, pos, negsuc, ◌+ℤ◌, ◌-ℤ◌, ◌*ℤ◌, neg_ℤ, nat_le, nat_lt, unsigned_abs}
+use Rattle.std.specs.Prelude.{ℕ, zero, suc, ◌+◌, ◌-◌, ◌*◌, ◌/◌, ◌%◌, ◌^◌, ◌≤◌, min, Bool, cond, ◌&&◌, ℤ, pos, negsuc, ◌+ℤ◌, ◌-ℤ◌, ◌*ℤ◌, neg_ℤ, nat_le, nat_lt, unsigned_abs}
 use Rattle.exact.specs.Numbers.{Exact, exacts, invert}
 use Rattle.exact.specs.Vectors.{Within}
 use Rattle.enclosure.specs.Arithmetic.{Outcome, known, refused, Arithmetic, Encloses}
@@ -32,7 +32,7 @@ in_range b = nat_le (unsigned_abs b.re) L && (nat_le (unsigned_abs b.im) L && na
 
 -- refused by the cause k where one of the numbers is out of range
 unfoldable pub ranged : ℕ → Ball → Outcome Ball
-ranged k b = cond (in_range b) (known b) (refused k [])
+ranged k b = cond (in_range b) (known b) (refused k)
 
 -- a result of an operation that is off scale is refused by 9
 abbrev pub scaled : Ball → Outcome Ball
@@ -41,7 +41,7 @@ scaled b = ranged 9 b
 -- three plain numbers that are no disc are refused by 1
 abbrev pub made : ℤ → ℤ → ℤ → Outcome Ball
 made x y (pos r) = ranged 1 (ball x y r)
-made x y (negsuc r) = refused 1 []
+made x y (negsuc r) = refused 1
 
 -- ---- rounding
 
@@ -98,7 +98,7 @@ reciprocal_by e a = scaled (ball (down (a.re *ℤ pos (2 ^ 48)) e) (down (neg_�
 
 -- refused by 8 where e ≤ 0
 unfoldable pub reciprocal : Ball → Outcome Ball
-reciprocal a = cond (nat_le (square a) (a.radius * a.radius)) (refused 8 []) (reciprocal_by (square a - a.radius * a.radius) a)
+reciprocal a = cond (nat_le (square a) (a.radius * a.radius)) (refused 8) (reciprocal_by (square a - a.radius * a.radius) a)
 
 -- (re - re')² + (im - im')² ≤ (r + r')²
 unfoldable pub touches : Ball → Ball → Bool
@@ -106,15 +106,12 @@ touches a b = nat_le (square (ball (a.re -ℤ b.re) (a.im -ℤ b.im) 0)) ((a.rad
 
 -- ---- the arithmetic of discs
 
--- 0 is (0, 0, 0), and 1 is (U, 0, 0)
-abbrev pub origin : Ball
-origin = ball (pos 0) (pos 0) 0
-
+-- 1 is (U, 0, 0)
 abbrev pub one : Ball
 one = ball (pos U) (pos 0) 0
 
 abbrev pub discs : Arithmetic Ball
-discs = record { zero = origin; unit = one; plus = sum; minus = difference; times = product; reciprocal = reciprocal; touches = touches }
+discs = record { unit = one; plus = sum; minus = difference; times = product; reciprocal = reciprocal; touches = touches }
 
 abbrev pub DiscsEnclose : Type 0
 DiscsEnclose = Encloses discs exacts invert Holds

@@ -1,8 +1,12 @@
 -- Equations worked out from values that hold exact numbers: by induction over the equations and their formulas.
 -- Assumes nothing.
-use Rattle.std.proofs.Common.{◌≡◌, ℕ, Bool, true, false, cond, eqb, List, [], ◌∷◌, refl, subst}
+use mathlib.Core.Path.{◌≡◌, refl, subst}
+use mathlib.Core.Bool.{Bool, true, false, cond}
+use Prim.Native.Nat.{ℕ}
+use mathlib.Core.List.{List, [], ◌∷◌}
+use lib.Dec.{eqb}
 use Rattle.exact.specs.Ring.{Ops}
-use Rattle.enclosure.specs.Arithmetic.{Outcome, known, refused, then, noting, Arithmetic, quotient, Encloses}
+use Rattle.enclosure.specs.Arithmetic.{Outcome, known, refused, then, Arithmetic, quotient, Encloses}
 use Rattle.equations.specs.Formula.{Term, Equation, Open, value, sum, difference, product, the, one, ◌≔◌, number, keep, all, products, finish, bracket, addend, factor, brackets, work, run}
 use Rattle.equations.specs.Formula as F
 use Rattle.equations.specs.Exactly.{exactly, run_exactly, Defined, AllDefined}
@@ -10,11 +14,11 @@ use Rattle.equations.specs.Exactly.{exactly, run_exactly, Defined, AllDefined}
 -- what is true of the answer, if there is one
 pub data OfAnswer {A : Type 0} (P : A → Type 0) : Outcome A → Type 0 where
   yields : {a : A} → P a → OfAnswer P (known a)
-  none : {k : ℕ} {vs : List ℕ} → OfAnswer P (refused k vs)
+  none : {k : ℕ} → OfAnswer P (refused k)
 
 pub of : {A : Type 0} {P : A → Type 0} (o : Outcome A) → ((a : A) → o ≡ known a → P a) → OfAnswer P o
 of (known a) h = yields (h a refl)
-of (refused k vs) h = none
+of (refused k) h = none
 
 pub next : {A B : Type 0} {P : A → Type 0} {Q : B → Type 0} {o : Outcome A} {f : A → Outcome B}
     → OfAnswer P o → ((a : A) → P a → OfAnswer Q (f a)) → OfAnswer Q (then o f)
@@ -24,10 +28,6 @@ next none g = none
 pub weaken : {A : Type 0} {P Q : A → Type 0} {o : Outcome A} → OfAnswer P o → ((a : A) → P a → Q a) → OfAnswer Q o
 weaken (yields {a = a} h) g = yields (g a h)
 weaken none g = none
-
-pub noted : {A : Type 0} {P : A → Type 0} {o : Outcome A} (n : ℕ) → OfAnswer P o → OfAnswer P (noting n o)
-noted n (yields h) = yields h
-noted n none = none
 
 given : {A : Type 0} {P : A → Type 0} {a : A} → OfAnswer P (known a) → P a
 given (yields h) = h
@@ -91,11 +91,6 @@ module _ {A : Type 0} (R : Arithmetic A) (O : Ops) (inv : O.C → O.C) (◌∋�
     quotient_holds x y u v p q = next (of (R.reciprocal y) λ c. inverse_held y c v q) λ i g.
         weaken (of (R.times x i) λ c. product_held x i c u (inv v) p g.1) λ c k. (g.0, k)
 
-    -- a formula is worked out once its brackets are
-    finished : (t : Term) (ε : ℕ → C) {o : Outcome (Open A)} → OfAnswer (λ r. Held r (exactly O inv t ε) × Defined O inv t ε) o
-        → OfAnswer (λ a. (a ∋ exactly O inv t ε) × Defined O inv t ε) (then o (finish R))
-    finished t ε h = next h λ r p. weaken (finish_holds r _ p.0) λ a q. (q, p.1)
-
     brackets_hold : (t : Term) (ρ : ℕ → A) (ε : ℕ → C) → ((n : ℕ) → ρ n ∋ ε n)
         → OfAnswer (λ r. Held r (exactly O inv t ε) × Defined O inv t ε) (brackets R t ρ)
     brackets_hold (the n) ρ ε h = yields (hval (h n), tt)
@@ -110,12 +105,14 @@ module _ {A : Type 0} (R : Arithmetic A) (O : Ops) (inv : O.C → O.C) (◌∋�
         next (brackets_hold a ρ ε h) λ r p. next (addend_holds r _ p.0) λ r' p'.
         next (brackets_hold b ρ ε h) λ s q. next (factor_holds s _ q.0) λ s' q'. yields (hmul p' q', (p.1, q.1))
     brackets_hold (F.◌/◌ a b) ρ ε h =
-        next (finished a ε (brackets_hold a ρ ε h)) λ x p. next (finished b ε (brackets_hold b ρ ε h)) λ y q.
-        next (quotient_holds x y _ _ p.0 q.0) λ e k. yields (hval k.1, (p.1, q.1, k.0))
+        next (brackets_hold a ρ ε h) λ r p. next (finish_holds r _ p.0) λ x p'.
+        next (brackets_hold b ρ ε h) λ s q. next (finish_holds s _ q.0) λ y q'.
+        next (quotient_holds x y _ _ p' q') λ e k. yields (hval k.1, (p.1, q.1, k.0))
 
     work_holds : (t : Term) (ρ : ℕ → A) (ε : ℕ → C) → ((n : ℕ) → ρ n ∋ ε n)
         → OfAnswer (λ a. (a ∋ exactly O inv t ε) × Defined O inv t ε) (work R t ρ)
-    work_holds t ρ ε h = finished t ε (brackets_hold t ρ ε h)
+    work_holds t ρ ε h = next (brackets_hold t ρ ε h) λ r p.
+        weaken (finish_holds r _ p.0) λ a q. (q, p.1)
 
     either : (b : Bool) {v a : A} {x y : C} → v ∋ x → a ∋ y → cond b v a ∋ cond b x y
     either true h k = h

@@ -1,6 +1,3 @@
 pub mod Enclosed
 pub mod OnePorts
 pub mod OnePortTruths
-pub mod TwoPorts
-pub mod TwoPortTruths
-pub mod Exchanges

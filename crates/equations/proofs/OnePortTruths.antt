@@ -1,12 +1,13 @@
 -- The truth at a point of one port, in every arithmetic that encloses a field.
 -- Assumes nothing.
-use Rattle.std.proofs.Common.{◌≡◌, ℕ}
+use mathlib.Core.Path.{◌≡◌}
+use Prim.Native.Nat.{ℕ}
 use Rattle.exact.specs.Ring.{Ops, Field}
 use Rattle.enclosure.specs.Arithmetic.{known, Arithmetic, Encloses}
 use Rattle.equations.specs.Formula.{Term, number, keep}
 use Rattle.equations.specs.OnePort.{Sol, ThreeTerms, G1, G2, G3, M1, M2, M3, ED, ES, ER, S, M, solve, correct, embed, from_standards, with_terms, from_raw, from_device, solved, corrected, embedded}
 use Rattle.equations.specs.OnePortTruth.{TermsHeld, SolHeld, raws, raw, RawExists, TermsTrue, DeviceTrue, RawTrue, ComesBack}
-use Rattle.equations.proofs.Enclosed.{yields, next, noted, yielded, keep_holds, run_holds}
+use Rattle.equations.proofs.Enclosed.{yields, next, yielded, keep_holds, run_holds}
 use Rattle.equations.proofs.OnePorts.{terms_are, device_is}
 
 module _ {A : Type 0} (R : Arithmetic A) (F : Field) (◌∋◌ : A → F.ring.ops.C → Type 0) (L : Encloses R F.ring.ops F.inv ◌∋◌) where
@@ -27,27 +28,27 @@ module _ {A : Type 0} (R : Arithmetic A) (F : Field) (◌∋◌ : A → F.ring.o
   terms_held : {T : ThreeTerms A} {t : ThreeTerms C} {ρ : ℕ → A} {ε : ℕ → C} → TermsHeld O ◌∋◌ T t → ((k : ℕ) → ρ k ∋ ε k) → (k : ℕ) → with_terms T ρ k ∋ with_terms t ε k
   terms_held h k = kept ED h.ed_held (kept ES h.es_held (kept ER h.er_held k))
 
-  pub terms_true : (port : ℕ) (G N : Sol A) (T : ThreeTerms A) → solved R port G N ≡ known T → TermsTrue R O F.inv ◌∋◌ G N T
-  terms_true port G N T a t g exist held read = yielded {P = λ T. TermsHeld O ◌∋◌ T t}
-      (noted port (next (run_holds R O F.inv ◌∋◌ L solve (from_standards G N) (from_standards g (raws O F.inv t g)) (standards_held G N g _ held read)) λ ρ e.
+  pub terms_true : (G N : Sol A) (T : ThreeTerms A) → solved R G N ≡ known T → TermsTrue R O F.inv ◌∋◌ G N T
+  terms_true G N T a t g exist held read = yielded {P = λ T. TermsHeld O ◌∋◌ T t}
+      (next (run_holds R O F.inv ◌∋◌ L solve (from_standards G N) (from_standards g (raws O F.inv t g)) (standards_held G N g _ held read)) λ ρ e.
       -- the divisor of ES, the eleventh equation, is V
       let v = terms_are F t g exist e.0.1.1.1.1.1.1.1.1.1.1.0.2 in
       yields (record {
         ed_held = same_held _ _ _ v.0 (e.1 (number ED));
         es_held = same_held _ _ _ v.1 (e.1 (number ES));
         er_held = same_held _ _ _ v.2 (e.1 (number ER));
-      })))
+      }))
       a
 
   pub device_true : (T : ThreeTerms A) (r d : A) → corrected R T r ≡ known d → DeviceTrue R O F.inv ◌∋◌ T r d
   device_true T r d a t s exists held k = yielded {P = λ d. d ∋ s}
-      (noted 5 (next (run_holds R O F.inv ◌∋◌ L correct (from_raw T r) (from_raw t (raw O F.inv t s)) (terms_held held (kept M k (λ _. k)))) λ ρ e.
-      yields (same_held _ _ _ (device_is F t s exists e.0.1.0.2) (e.1 (number S)))))
+      (next (run_holds R O F.inv ◌∋◌ L correct (from_raw T r) (from_raw t (raw O F.inv t s)) (terms_held held (kept M k (λ _. k)))) λ ρ e.
+      yields (same_held _ _ _ (device_is F t s exists e.0.1.0.2) (e.1 (number S))))
       a
 
   pub raw_true : (T : ThreeTerms A) (s r : A) → embedded R T s ≡ known r → RawTrue R O F.inv ◌∋◌ T s r
   raw_true T s r a t x held k = yielded {P = λ r. RawExists O F.inv t x × (r ∋ raw O F.inv t x)}
-      (noted 6 (next (run_holds R O F.inv ◌∋◌ L embed (from_device T s) (from_device t x) (terms_held held (kept S k (λ _. k)))) λ ρ e. yields (e.0, e.1 (number M))))
+      (next (run_holds R O F.inv ◌∋◌ L embed (from_device T s) (from_device t x) (terms_held held (kept S k (λ _. k)))) λ ρ e. yields (e.0, e.1 (number M)))
       a
 
   -- any members of the terms serve

@@ -1,6 +1,7 @@
 -- Over any field the one-port equations give back the terms and the device.
 -- Assumes nothing.
-use Rattle.std.proofs.Common.{◌≡◌, ℕ, refl}
+use mathlib.Core.Path.{◌≡◌, refl}
+use Prim.Native.Nat.{ℕ}
 use Rattle.exact.specs.Ring.{Ops, Field}
 use Rattle.exact.proofs.Normaliser.{E, norm, var, 𝟎, 𝟏, ◌⊕◌, ◌⊗◌, ⊝, ◌⊖◌, lin, done, times, ◌◂◌, none}
 use Rattle.equations.specs.Exactly.{run_exactly}

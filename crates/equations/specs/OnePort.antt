@@ -1,8 +1,8 @@
 -- One port by the 3-term model: its equations, and the working-out in any arithmetic.
 -- Assumes nothing.
-use Rattle.std.specs.Prelude.{ℕ, List, [], ◌∷◌}
-use Rattle.enclosure.specs.Arithmetic.{Outcome, noting, Arithmetic}
-use Rattle.equations.specs.Formula.{Term, Equation, the, one, ◌+◌, ◌-◌, ◌*◌, ◌/◌, ◌≔◌, keep, at, worked}
+use Rattle.std.specs.Prelude.{List, [], ◌∷◌, ◌++◌, ℕ}
+use Rattle.enclosure.specs.Arithmetic.{Outcome, known, then, Arithmetic}
+use Rattle.equations.specs.Formula.{Term, Equation, the, one, ◌+◌, ◌-◌, ◌*◌, ◌/◌, ◌≔◌, keep, at, run}
 
 -- the listed short, open and load, and their readings
 abbrev pub G1 : Term
@@ -79,9 +79,8 @@ m = the 23
 
 -- ---- the equations
 
--- from standards to terms
-abbrev pub solve : List Equation
-solve =
+abbrev pub solve_differences : List Equation
+solve_differences =
     P1 ≔ G1 * M1
     ∷ P2 ≔ G2 * M2
     ∷ P3 ≔ G3 * M3
@@ -91,12 +90,24 @@ solve =
     ∷ b2 ≔ G2 - G3
     ∷ c1 ≔ M1 - M3
     ∷ c2 ≔ M2 - M3
-    ∷ V ≔ a1 * b2 - a2 * b1
+    ∷ []
+
+abbrev pub solve_quotients : List Equation
+solve_quotients =
+    V ≔ a1 * b2 - a2 * b1
     ∷ ES ≔ (c1 * b2 - c2 * b1) / V
     ∷ z ≔ (a1 * c2 - a2 * c1) / V
-    ∷ ED ≔ M3 - P3 * ES - G3 * z
+    ∷ []
+
+abbrev pub solve_terms : List Equation
+solve_terms =
+    ED ≔ M3 - P3 * ES - G3 * z
     ∷ ER ≔ z + ED * ES
     ∷ []
+
+-- from standards to terms
+abbrev pub solve : List Equation
+solve = solve_differences ++ solve_quotients ++ solve_terms
 
 -- from raw to actual
 abbrev pub correct : List Equation
@@ -124,7 +135,7 @@ pub record ThreeTerms (A : Type 0) : Type 0 where
   pub es : A
   pub er : A
 
--- the quantities at the start; the last value fills in for those that are not yet worked out, which no equation reads (Scope)
+-- the quantities at the start; the last one fills in for those that are not yet worked out, which no equation reads
 module _ {A : Type 0} where
   abbrev pub from_standards : Sol A → Sol A → ℕ → A
   from_standards g m = keep G1 g.short (keep G2 g.«open» (keep G3 g.load (keep M1 m.short (keep M2 m.«open» (keep M3 m.load (λ _. m.load))))))
@@ -141,21 +152,15 @@ module _ {A : Type 0} where
   abbrev pub terms_in : (ℕ → A) → ThreeTerms A
   terms_in ρ = record { ed = at ρ ED; es = at ρ ES; er = at ρ ER }
 
-  abbrev pub device_in : (ℕ → A) → A
-  device_in ρ = at ρ S
-
-  abbrev pub raw_in : (ℕ → A) → A
-  raw_in ρ = at ρ M
-
--- ---- the working-out; a refusal notes its stage
+-- ---- the working-out
 
 module _ {A : Type 0} (R : Arithmetic A) where
-  -- stage 1 for port 1, stage 2 for port 2: from listed values g and readings m
-  abbrev pub solved : ℕ → Sol A → Sol A → Outcome (ThreeTerms A)
-  solved port g m = noting port (worked R solve (from_standards g m) terms_in)
+  -- from listed values g and readings m
+  abbrev pub solved : Sol A → Sol A → Outcome (ThreeTerms A)
+  solved g m = then (run R solve (from_standards g m)) λ ρ. known (terms_in ρ)
 
   abbrev pub corrected : ThreeTerms A → A → Outcome A
-  corrected t raw = noting 5 (worked R correct (from_raw t raw) device_in)
+  corrected t raw = then (run R correct (from_raw t raw)) λ ρ. known (at ρ S)
 
   abbrev pub embedded : ThreeTerms A → A → Outcome A
-  embedded t actual = noting 6 (worked R embed (from_device t actual) raw_in)
+  embedded t actual = then (run R embed (from_device t actual)) λ ρ. known (at ρ M)

@@ -4,7 +4,8 @@ use Rattle.std.specs.Prelude.{◌≡◌}
 use Rattle.exact.specs.Ring.{Ops}
 use Rattle.enclosure.specs.Arithmetic.{known, Arithmetic}
 use Rattle.equations.specs.Exactly.{run_exactly, AllDefined}
-use Rattle.equations.specs.OnePort.{Sol, ThreeTerms, embed, from_device, raw_in, embedded}
+use Rattle.equations.specs.Formula.{at}
+use Rattle.equations.specs.OnePort.{Sol, ThreeTerms, M, embed, from_device, embedded}
 
 -- ---- an exact analyser is three exact terms
 
@@ -13,7 +14,7 @@ module _ (O : Ops) (inv : O.C → O.C) where
 
   -- the raw value of a device: the embed equations, nothing rounded ..
   abbrev pub raw : ThreeTerms C → C → C
-  raw t s = raw_in (run_exactly O inv embed (from_device t s))
+  raw t s = at (run_exactly O inv embed (from_device t s)) M
 
   -- .. and every divisor other than zero
   abbrev pub RawExists : ThreeTerms C → C → Type 0

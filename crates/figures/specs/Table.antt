@@ -28,8 +28,8 @@ table =
     ∷ product_is (ball (negsuc 0) (pos 0) 0) (ball (pos 1) (pos 0) 0) (known (ball (negsuc 0) (pos 0) 2))
     ∷ reciprocal_is (ball (pos U) (pos 0) 8388608) (known (ball (pos 22369621) (pos 0) 11184813))
     ∷ reciprocal_is (ball (pos 262144) (pos 0) 0) (known (ball (pos L) (pos 0) 2))
-    ∷ reciprocal_is (ball (pos 262143) (pos 0) 0) (refused 9 [])
-    ∷ reciprocal_is (ball (pos 5) (pos 0) 5) (refused 8 [])
+    ∷ reciprocal_is (ball (pos 262143) (pos 0) 0) (refused 9)
+    ∷ reciprocal_is (ball (pos 5) (pos 0) 5) (refused 8)
     ∷ touch_is (ball (pos 0) (pos 0) 3) (ball (pos 3) (pos 4) 2) true
     ∷ touch_is (ball (pos 0) (pos 0) 2) (ball (pos 3) (pos 4) 2) false
     ∷ []

@@ -1,7 +1,9 @@
 //! Solves one port with ideal standards and exact ideal readings, then embeds and corrects one
 //! value, and prints the terms and both answers: name, re, im and radius in units of 2^-24.
+#![tactic(auto)]
+
 use disc::{Disc, OutOfRange, PlainDisc};
-use one_port::{Port, Sol, ThreeTerms};
+use one_port::{Sol, ThreeTerms};
 
 /// A number of units, exactly.
 fn real(units: i64) -> Result<Disc, OutOfRange> {
@@ -28,7 +30,7 @@ fn print(rt: &impl Print, name: &str, disc: Disc) -> anyhow::Result<()> {
 
 fn run(rt: &impl Print) -> anyhow::Result<()> {
     let standards = ideal()?;
-    let terms = ThreeTerms::solve(Port::One, standards, standards)?;
+    let terms = ThreeTerms::solve(standards, standards)?;
     let half = real(8_388_608)?;
     print(rt, "ED", terms.ed)?;
     print(rt, "ES", terms.es)?;

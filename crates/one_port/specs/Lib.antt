@@ -1,3 +1,3 @@
 pub mod Meaning
-pub mod Formulas
+pub mod Parts
 pub mod Truth

@@ -2,17 +2,12 @@
 //! values to actual ones, and back.
 //!
 //! Every answer is what docs/equations.md works out, unit for unit, and holds the truth.
+#![tactic(auto)]
+
 mod solve;
 mod transfer;
 
 use disc::Disc;
-
-/// A port of the analyser.
-#[derive(Clone, Copy)]
-pub enum Port {
-    One,
-    Two,
-}
 
 /// One disc each for the short, the open and the load.
 #[derive(Clone, Copy)]
@@ -22,7 +17,7 @@ pub struct Sol {
     pub load: Disc,
 }
 
-/// The error terms of one port, or the reflection terms of one of two.
+/// The error terms of one port.
 #[derive(Clone, Copy)]
 pub struct ThreeTerms {
     /// Directivity.

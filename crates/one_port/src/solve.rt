@@ -2,82 +2,89 @@
 ghost use Rattle.std.specs.Prelude.{◌≡◌};
 ghost use Rattle.enclosure.specs.Discs.{discs};
 ghost use Rattle.disc.specs.Meaning.{answer, meaning};
-ghost use Rattle.equations.specs.Formula.{worked};
-ghost use Rattle.equations.specs.OnePort.{from_standards, solve, solved, terms_in};
-ghost use Rattle.stage.specs.Meaning.{stage_number, staged};
-ghost use Rattle.one_port.specs.Formulas.{cramer_of, determinant_of, directivity_of};
-ghost use Rattle.one_port.specs.Meaning.{port_number, sol, terms};
+ghost use Rattle.equations.specs.OnePort.{solved};
+ghost use Rattle.one_port.specs.Meaning.{sol, terms};
+ghost use Rattle.one_port.specs.Parts.{differenced, differences, divided, finished, quotients, solved_in_parts};
 ghost use Rattle.one_port.specs.Truth.{TermsTrue};
 
-use crate::{Port, Sol, ThreeTerms};
+use crate::{Sol, ThreeTerms};
 use disc::{Disc, Refusal};
-use stage::{Stage, StageRefusal};
 
-/// a b - c d
-fn determinant(a: Disc, b: Disc, c: Disc, d: Disc) -> Result<Disc, Refusal>
-    ensures { answer meaning result ≡ determinant_of discs (meaning a) (meaning b) (meaning c) (meaning d) }
-{
-    let p = a.times(b)?;
-    let q = c.times(d)?;
-    p.minus(q)
+/// P3, and the differences of products, listed values and readings from the load's.
+#[derive(Clone, Copy)]
+struct Differences {
+    p3: Disc,
+    a1: Disc,
+    a2: Disc,
+    b1: Disc,
+    b2: Disc,
+    c1: Disc,
+    c2: Disc,
 }
 
-/// By Cramer's rule: (a b - c d)/V.
-fn cramer(a: Disc, b: Disc, c: Disc, d: Disc, v: Disc) -> Result<Disc, Refusal>
-    ensures { answer meaning result ≡ cramer_of discs (meaning a) (meaning b) (meaning c) (meaning d) (meaning v) }
-{
-    let n = determinant(a, b, c, d)?;
-    n.over(v)
+/// The quotients by V: ES, and z, which is ER - ED ES.
+#[derive(Clone, Copy)]
+struct Quotients {
+    es: Disc,
+    z: Disc,
 }
 
-/// ED = M3 - P3 ES - G3 z
-fn directivity(m3: Disc, p3: Disc, es: Disc, g3: Disc, z: Disc) -> Result<Disc, Refusal>
-    ensures { answer meaning result ≡ directivity_of discs (meaning m3) (meaning p3) (meaning es) (meaning g3) (meaning z) }
+fn difference(listed: Sol, read: Sol) -> Result<Differences, Refusal>
+    ensures { answer differences result ≡ differenced discs (sol listed) (sol read) }
 {
-    let x = p3.times(es)?;
-    let y = g3.times(z)?;
-    m3.minus(x)?.minus(y)
-}
-
-fn standards_to_terms(g: Sol, m: Sol) -> Result<ThreeTerms, Refusal>
-    ensures { answer terms result ≡ worked discs solve (from_standards (sol g) (sol m)) terms_in }
-{
-    let p1 = g.short.times(m.short)?;
-    let p2 = g.open.times(m.open)?;
-    let p3 = g.load.times(m.load)?;
+    let p1 = listed.short.times(read.short)?;
+    let p2 = listed.open.times(read.open)?;
+    let p3 = listed.load.times(read.load)?;
     let a1 = p1.minus(p3)?;
     let a2 = p2.minus(p3)?;
-    let b1 = g.short.minus(g.load)?;
-    let b2 = g.open.minus(g.load)?;
-    let c1 = m.short.minus(m.load)?;
-    let c2 = m.open.minus(m.load)?;
-    let v = determinant(a1, b2, a2, b1)?;
-    let es = cramer(c1, b2, c2, b1, v)?;
-    let z = cramer(a1, c2, a2, c1, v)?;
-    let ed = directivity(m.load, p3, es, g.load, z)?;
-    let er = z.plus(ed.times(es)?)?;
-    Ok(ThreeTerms { ed, es, er })
+    let b1 = listed.short.minus(listed.load)?;
+    let b2 = listed.open.minus(listed.load)?;
+    let c1 = read.short.minus(read.load)?;
+    let c2 = read.open.minus(read.load)?;
+    Ok(Differences {
+        p3,
+        a1,
+        a2,
+        b1,
+        b2,
+        c1,
+        c2,
+    })
 }
 
-impl Port {
-    /// The stage that works out the reflection terms of the port.
-    fn stage(self) -> Stage
-        ensures { stage_number result ≡ port_number self }
-    {
-        match self {
-            Port::One => Stage::Port1,
-            Port::Two => Stage::Port2,
-        }
-    }
+fn divide(d: Differences) -> Result<Quotients, Refusal>
+    ensures { answer quotients result ≡ divided discs (differences d) }
+{
+    let v = d.a1.times(d.b2)?.minus(d.a2.times(d.b1)?)?;
+    let es = d.c1.times(d.b2)?.minus(d.c2.times(d.b1)?)?.over(v)?;
+    let z = d.a1.times(d.c2)?.minus(d.a2.times(d.c1)?)?.over(v)?;
+    Ok(Quotients { es, z })
+}
+
+fn finish(listed: Disc, read: Disc, p3: Disc, q: Quotients) -> Result<ThreeTerms, Refusal>
+    ensures { answer terms result ≡ finished discs (meaning listed) (meaning read) (meaning p3) (quotients q) }
+{
+    let x = p3.times(q.es)?;
+    let y = listed.times(q.z)?;
+    let ed = read.minus(x)?.minus(y)?;
+    let er = q.z.plus(ed.times(q.es)?)?;
+    Ok(ThreeTerms { ed, es: q.es, er })
+}
+
+fn solve_in_parts(listed: Sol, read: Sol) -> Result<ThreeTerms, Refusal>
+    ensures { answer terms result ≡ solved_in_parts discs (sol listed) (sol read) }
+{
+    let d = difference(listed, read)?;
+    let q = divide(d)?;
+    finish(listed.load, read.load, d.p3, q)
 }
 
 impl ThreeTerms {
-    /// The terms of a port, from what its standards are listed as and what was read of them.
-    pub fn solve(port: Port, listed: Sol, read: Sol) -> Result<ThreeTerms, StageRefusal>
-        ensures value { staged terms result ≡ solved discs (port_number port) (sol listed) (sol read) }
+    /// The terms, from what the standards are listed as and what was read of them.
+    pub fn solve(listed: Sol, read: Sol) -> Result<ThreeTerms, Refusal>
+        ensures value { answer terms result ≡ solved discs (sol listed) (sol read) }
         ensures truth { TermsTrue listed read result }
     {
-        let terms = standards_to_terms(listed, read);
-        port.stage().note(terms)
+        solve_in_parts(listed, read)
     }
 }

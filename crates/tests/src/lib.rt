@@ -1,9 +1,9 @@
-//! Tests, of discs, of one port and of two.
+//! Tests, of discs and of one port.
+#![tactic(auto)]
+
 #[cfg(test)]
 mod answer;
 #[cfg(test)]
 mod discs;
 #[cfg(test)]
 mod one_port;
-#[cfg(test)]
-mod two_port;

@@ -1,10 +1,16 @@
 //! One port against figures worked in exact fractions, and its refusals.
-use crate::answer::Answer::{Is, RefusedAt};
-use crate::answer::{Answer, L, Numbers, U, disc, refused_at, shown, sol, told_at};
-use disc::OutOfRange;
-use one_port::{Port, Sol, ThreeTerms};
-use stage::StageRefusal;
+use crate::answer::Answer::{Is, Refused};
+use crate::answer::{Answer, L, Numbers, U, disc, told};
+use disc::{OutOfRange, Refusal};
+use one_port::{Sol, ThreeTerms};
 use std::test::Fail;
+
+fn sol(short: Numbers, open: Numbers, load: Numbers) -> Result<Sol, OutOfRange> {
+    let short = disc(short)?;
+    let open = disc(open)?;
+    let load = disc(load)?;
+    Ok(Sol { short, open, load })
+}
 
 fn three_terms(ed: Numbers, es: Numbers, er: Numbers) -> Result<ThreeTerms, OutOfRange> {
     let ed = disc(ed)?;
@@ -15,7 +21,7 @@ fn three_terms(ed: Numbers, es: Numbers, er: Numbers) -> Result<ThreeTerms, OutO
 
 /// ED = 1/20 + i/50, ES = 1/10 - i/20, ER = 9/10 + i/10; a short of -99/100 + i/30, an open of
 /// 97/100 - i/7 and a load of 1/200 - i/300, listed and read to within 2 units.
-fn lossy() -> Result<Result<ThreeTerms, StageRefusal>, OutOfRange> {
+fn lossy() -> Result<Result<ThreeTerms, Refusal>, OutOfRange> {
     let listed = sol(
         (-16_609_444, 559_240, 2),
         (16_273_899, -2_396_746, 2),
@@ -26,15 +32,15 @@ fn lossy() -> Result<Result<ThreeTerms, StageRefusal>, OutOfRange> {
         (17_077_313, -1_366_632, 2),
         (919_953, 293_539, 2),
     )?;
-    Ok(ThreeTerms::solve(Port::One, listed, read))
+    Ok(ThreeTerms::solve(listed, read))
 }
 
 #[test]
 fn lossy_terms(rt: HostRuntime) -> Result<(), Fail> {
     let terms = lossy()??;
-    assert_eq!(rt; shown(terms.ed), Is(838_862, 335_545, 10));
-    assert_eq!(rt; shown(terms.es), Is(1_677_721, -838_861, 17));
-    assert_eq!(rt; shown(terms.er), Is(15_099_494, 1_677_720, 44));
+    assert_eq!(rt; told(Ok(terms.ed)), Is(838_862, 335_545, 10));
+    assert_eq!(rt; told(Ok(terms.es)), Is(1_677_721, -838_861, 17));
+    assert_eq!(rt; told(Ok(terms.er)), Is(15_099_494, 1_677_720, 44));
     Ok(())
 }
 
@@ -43,7 +49,7 @@ fn lossy_terms(rt: HostRuntime) -> Result<(), Fail> {
 fn lossy_device(rt: HostRuntime) -> Result<(), Fail> {
     let terms = lossy()??;
     let raw = disc((5_555_667, 5_511_555, 2))?;
-    assert_eq!(rt; told_at(terms.correct(raw)), Is(5_592_403, 4_793_490, 41));
+    assert_eq!(rt; told(terms.correct(raw)), Is(5_592_403, 4_793_490, 41));
     Ok(())
 }
 
@@ -52,26 +58,23 @@ fn lossy_round_trip(rt: HostRuntime) -> Result<(), Fail> {
     let terms = lossy()??;
     let device = disc((5_592_405, 4_793_490, 2))?;
     let raw = terms.embed(device)?;
-    assert_eq!(rt; shown(raw), Is(5_555_667, 5_511_553, 43));
-    assert_eq!(rt; told_at(terms.correct(raw)), Is(5_592_403, 4_793_488, 87));
+    assert_eq!(rt; told(Ok(raw)), Is(5_555_667, 5_511_553, 43));
+    assert_eq!(rt; told(terms.correct(raw)), Is(5_592_403, 4_793_488, 87));
     Ok(())
 }
 
-fn solved(port: Port, listed: Sol, read: Sol) -> Answer {
-    match ThreeTerms::solve(port, listed, read) {
-        Ok(terms) => shown(terms.ed),
-        Err(refusal) => refused_at(refusal),
+fn solved(listed: Sol, read: Sol) -> Answer {
+    match ThreeTerms::solve(listed, read) {
+        Ok(terms) => told(Ok(terms.ed)),
+        Err(refusal) => told(Err(refusal)),
     }
 }
 
 #[test]
 fn equal_readings_are_refused(rt: HostRuntime) -> Result<(), Fail> {
     let ideal = sol((-U, 0, 0), (U, 0, 0), (0, 0, 0))?;
-    for equal in [(0, 0, 0), (8_388_608, -4_194_304, 3)] {
-        let read = sol(equal, equal, equal)?;
-        assert_eq!(rt; solved(Port::One, ideal, read), RefusedAt(8, 1));
-        assert_eq!(rt; solved(Port::Two, ideal, read), RefusedAt(8, 2));
-    }
+    let nothing = sol((0, 0, 0), (0, 0, 0), (0, 0, 0))?;
+    assert_eq!(rt; solved(ideal, nothing), Refused(8));
     Ok(())
 }
 
@@ -80,7 +83,7 @@ fn equal_readings_are_refused(rt: HostRuntime) -> Result<(), Fail> {
 fn dividend_before_divisor(rt: HostRuntime) -> Result<(), Fail> {
     let listed = sol((L, 0, 0), (L, 0, 0), (0, 0, 0))?;
     let read = sol((0, 0, 0), (0, 0, 0), (L, 0, 0))?;
-    assert_eq!(rt; solved(Port::One, listed, read), RefusedAt(9, 1));
+    assert_eq!(rt; solved(listed, read), Refused(9));
     Ok(())
 }
 
@@ -88,14 +91,11 @@ fn dividend_before_divisor(rt: HostRuntime) -> Result<(), Fail> {
 fn transfers_are_refused(rt: HostRuntime) -> Result<(), Fail> {
     let wild = three_terms((0, 0, 0), (262_144, 0, 0), (L, 0, 0))?;
     // ER S is off scale, and 1 - ES S may be zero: the dividend comes first
-    assert_eq!(rt; told_at(wild.embed(disc((L, 0, 0))?)), RefusedAt(9, 6));
+    assert_eq!(rt; told(wild.embed(disc((L, 0, 0))?)), Refused(9));
     let resonant = three_terms((0, 0, 0), (U, 0, 0), (U, 0, 0))?;
-    assert_eq!(rt; told_at(resonant.embed(disc((U, 0, 0))?)), RefusedAt(8, 6));
-    assert_eq!(rt;
-        told_at(resonant.correct(disc((-U, 0, 0))?)),
-        RefusedAt(8, 5)
-    );
+    assert_eq!(rt; told(resonant.embed(disc((U, 0, 0))?)), Refused(8));
+    assert_eq!(rt; told(resonant.correct(disc((-U, 0, 0))?)), Refused(8));
     let shifted = three_terms((-L, 0, 0), (0, 0, 0), (U, 0, 0))?;
-    assert_eq!(rt; told_at(shifted.correct(disc((1, 0, 0))?)), RefusedAt(9, 5));
+    assert_eq!(rt; told(shifted.correct(disc((1, 0, 0))?)), Refused(9));
     Ok(())
 }

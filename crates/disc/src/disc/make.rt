@@ -1,8 +1,7 @@
 //! How a disc is made, and read.
 ghost use Rattle.std.specs.Prelude.{◌≡◌, pos};
-ghost use Rattle.exact.specs.Numbers.{ExactField, nought};
-ghost use Rattle.enclosure.specs.Discs.{DiscsEnclose, ball, made, one, origin, scaled};
-ghost use Rattle.disc.specs.Enclosure.{Has};
+ghost use Rattle.exact.specs.Numbers.{ExactField};
+ghost use Rattle.enclosure.specs.Discs.{DiscsEnclose, ball, made, one, scaled};
 ghost use Rattle.disc.specs.Meaning.{answer, disc_or_1, meaning};
 
 use super::{Disc, LIMIT, ONE};
@@ -33,18 +32,6 @@ impl Disc {
             re: self.re,
             im: self.im,
             radius: self.radius as i64,
-        }
-    }
-
-    /// Zero, with no radius.
-    pub fn zero() -> Disc
-        ensures value { meaning result ≡ origin }
-        ensures holds { Has result nought }
-    {
-        Disc {
-            re: 0,
-            im: 0,
-            radius: 0,
         }
     }
 

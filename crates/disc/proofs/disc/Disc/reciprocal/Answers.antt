@@ -1,4 +1,4 @@
-use Rattle.std.proofs.Common.{◌≡◌, ◌-◌, ◌*◌, [], sym, ◌∙◌, arith, SFits, rules}
+use Rattle.std.proofs.Common.{◌≡◌, ◌-◌, ◌*◌, sym, ◌∙◌, arith, SFits, rules}
 use borrow.Author.Differences.{ints}
 use Rattle.std.proofs.lemmas.Bool.{cond-true, cond-false, le-leb, lt-leb}
 use mir.Syntax.{w128}
@@ -10,7 +10,7 @@ use Rattle.disc.proofs.Keeping.{inverse_kept}
 use Rattle.disc.proofs.Parts.{same_scaled, same_down}
 use Rattle.disc.proofs.disc.Disc.reciprocal.Goals as goal
 
-may_be_zero : (c : goal.Then-s-t) → refused 8 [] ≡ reciprocal (meaning c.args.self)
+may_be_zero : (c : goal.Then-s-t) → refused 8 ≡ reciprocal (meaning c.args.self)
 unfolding reciprocal
 may_be_zero c = sym (cond-true _ _ _ (le-leb _ _ (rw c.square-s.ensures.value at c.if-s-t.true)))
 

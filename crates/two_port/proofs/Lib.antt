@@ -1,2 +1,0 @@
-pub mod Directed
-pub mod Keeping
