@@ -2,9 +2,9 @@ use Rattle.std.proofs.Common.{rules}
 use Rattle.enclosure.specs.Discs.{ranged}
 use Rattle.disc.proofs.disc.Disc.on_scale.Goals as goal
 
-pub returns-then-unsigned-abs-gt-LIMIT : goal.returns-then-unsigned-abs-gt-LIMIT
+pub returns-then-unsigned_abs-gt-LIMIT : goal.returns-then-unsigned_abs-gt-LIMIT
 unfolding ranged
-returns-then-unsigned-abs-gt-LIMIT c = search rules
+returns-then-unsigned_abs-gt-LIMIT c = search rules
 
 pub returns : goal.returns
 unfolding ranged

@@ -17,16 +17,16 @@ may_be_zero c = sym (cond-true _ _ _ (le-leb _ _ (rw c.square-s.ensures.value at
 pub returns-then-s-t : goal.returns-then-s-t
 returns-then-s-t c = record { value = may_be_zero c; encloses = λ x h. tt }
 
-equal : (c : goal.After-wide-on-scale) → answer meaning c.wide-on-scale.result ≡ reciprocal (meaning c.args.self)
+equal : (c : goal.After-wide_on_scale) → answer meaning c.wide_on_scale.result ≡ reciprocal (meaning c.args.self)
 unfolding reciprocal reciprocal_by
 equal c =
-    let x : SFits w128 c.floor-by-re.result = search rules in
-    let y : SFits w128 c.floor-by-im.result = search rules in
+    let x : SFits w128 c.floor_by-re.result = search rules in
+    let y : SFits w128 c.floor_by-im.result = search rules in
     let e : c.square-s.result - c.args.self.radius * c.args.self.radius ≡ square (meaning c.args.self) - c.args.self.radius * c.args.self.radius = rw c.square-s.ensures.value in
-    same_scaled c.wide-on-scale.ensures
-    (to_z-of_z w128 _ x ∙ c.floor-by-re.ensures ∙ same_down (omega (arith, ints)) e)
-    (to_z-of_z w128 _ y ∙ c.floor-by-im.ensures ∙ same_down (omega (arith, ints)) e)
-    (rw (c.div-ceil-radius.ensures, c.square-s.ensures.value))
+    same_scaled c.wide_on_scale.ensures
+    (to_z-of_z w128 _ x ∙ c.floor_by-re.ensures ∙ same_down (omega (arith, ints)) e)
+    (to_z-of_z w128 _ y ∙ c.floor_by-im.ensures ∙ same_down (omega (arith, ints)) e)
+    (rw (c.div_ceil-radius.ensures, c.square-s.ensures.value))
     ∙ sym (cond-false _ _ _ (lt-leb _ _ (rw c.square-s.ensures.value at c.if-s-t.false)))
 
 pub returns : goal.returns

@@ -6,9 +6,9 @@ use Rattle.disc.proofs.disc.Disc.size.Goals as goal
 
 pub returns : goal.returns
 returns c =
-    let e : c.root-up.result ≡ size (meaning c.args.self) = c.root-up.ensures.value ∙ ap root c.square.ensures.value in
+    let e : c.root_up.result ≡ size (meaning c.args.self) = c.root_up.ensures.value ∙ ap root c.square.ensures.value in
     record {
       value = e;
       least = subst (λ (n : ℕ). LeastRoot (square (meaning c.args.self)) n) (sym e) (root_is_least _);
-      bound = c.root-up.ensures.bound;
+      bound = c.root_up.ensures.bound;
     }

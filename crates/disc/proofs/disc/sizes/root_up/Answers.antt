@@ -4,7 +4,7 @@ use Rattle.disc.proofs.disc.sizes.root_up.Goals as goal
 
 pub returns-then-n-s : goal.returns-then-n-s
 returns-then-n-s c =
-    let e = root_above _ _ c.if-n-s.true c.isqrt-n.ensures.next-square-gt in
+    let e = root_above _ _ c.if-n-s.true c.isqrt-n.ensures.next_square_gt in
     record { value = e; bound = omega (arith, root_least c.args.s (2 ^ 31) (omega arith)) }
 
 pub returns-else-n-s : goal.returns-else-n-s
