@@ -7,8 +7,8 @@ use Rattle.one_port.proofs.Joining.{in_parts}
 use Rattle.one_port.proofs.Keeping.{terms_true}
 use Rattle.one_port.proofs.ThreeTerms.solve.Goals as goal
 
-equal : (c : goal.After-solve-in-parts) → answer terms c.solve-in-parts.result ≡ solved discs (sol c.args.listed) (sol c.args.read)
-equal c = c.solve-in-parts.ensures ∙ sym (in_parts discs (sol c.args.listed) (sol c.args.read))
+equal : (c : goal.After-solve_in_parts) → answer terms c.solve_in_parts.result ≡ solved discs (sol c.args.listed) (sol c.args.read)
+equal c = c.solve_in_parts.ensures ∙ sym (in_parts discs (sol c.args.listed) (sol c.args.read))
 
 pub returns : goal.returns
 returns c = record { value = equal c; truth = terms_true c.args.listed c.args.read _ (equal c) }
