@@ -1,6 +1,6 @@
 -- What discs hold, where one is u units.
 -- Assumes nothing.
-use Rattle.std.proofs.Common.{◌≡◌, ℕ, zero, ◌+◌, ◌-◌, ◌*◌, ◌<◌, ◌≤◌, ℤ, pos, ◌+ℤ◌, ◌-ℤ◌, ◌*ℤ◌, neg_ℤ, refl, mul-le-mul_left, arith}
+use Rattle.std.proofs.Common.{◌≡◌, ℕ, zero, ◌+◌, ◌*◌, ◌<◌, ◌≤◌, ℤ, pos, ◌+ℤ◌, ◌-ℤ◌, ◌*ℤ◌, neg_ℤ, refl, mul-le-mul_left, arith}
 use Rattle.exact.specs.Numbers.{Exact, ◌≃◌, add, multiply, negate}
 use Rattle.exact.proofs.Normaliser.{E, var, 𝟎, ◌⊕◌, ◌⊗◌, ⊝, ◌⊖◌, solve, lin, done, times}
 use Rattle.exact.proofs.Whole.{ℤR, ◌◃◌, end}

@@ -1,6 +1,6 @@
 -- The reciprocal of a disc holds one by each number that the disc holds.
 -- Assumes nothing.
-use Rattle.std.proofs.Common.{◌≡◌, ℕ, zero, suc, ◌+◌, ◌-◌, ◌*◌, ◌<◌, ◌≤◌, ℤ, pos, ◌+ℤ◌, ◌-ℤ◌, ◌*ℤ◌, neg_ℤ, refl, ap, ◌∙◌, mul-le-mul_left, mul-pos, arith}
+use Rattle.std.proofs.Common.{◌≡◌, ℕ, zero, suc, ◌+◌, ◌*◌, ◌<◌, ◌≤◌, ℤ, pos, ◌+ℤ◌, ◌-ℤ◌, ◌*ℤ◌, neg_ℤ, refl, ap, ◌∙◌, mul-le-mul_left, mul-pos, arith}
 use Rattle.exact.specs.Numbers.{Exact, ◌≃◌, nought, norm, invert_by, invert}
 use Rattle.exact.proofs.Normaliser.{E, var, num, 𝟎, 𝟏, ◌⊕◌, ◌⊗◌, ⊝, ◌⊖◌, solve, lin, done, times}
 use Rattle.exact.proofs.Whole.{ℤR, ◌◃◌, end}
