@@ -25,3 +25,4 @@ mod reciprocals;
 mod sizes;
 mod sums;
 mod touch;
+mod zero;

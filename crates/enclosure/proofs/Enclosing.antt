@@ -7,7 +7,7 @@ use Rattle.exact.specs.Vectors.{Within}
 use Rattle.exact.proofs.Order.{norm_is, to_nat}
 use Rattle.exact.proofs.Vectors.{gap, since}
 use Rattle.enclosure.specs.Arithmetic.{known, refused}
-use Rattle.enclosure.specs.Discs.{U, Ball, ball, Holds, ranged, scaled, down, up, square, size, root, real_part, imaginary_part, spread, sum, difference, product, reciprocal_by, reciprocal, touches, one, DiscsEnclose}
+use Rattle.enclosure.specs.Discs.{U, Ball, ball, Holds, ranged, scaled, down, up, square, size, root, real_part, imaginary_part, spread, sum, difference, product, reciprocal_by, reciprocal, touches, origin, one, DiscsEnclose}
 use Rattle.enclosure.proofs.Rounding.{down_is, rest, rest_less, room, both_less, root_enough}
 use Rattle.enclosure.proofs.Holding as H
 use Rattle.enclosure.proofs.Reciprocals as R
@@ -39,6 +39,10 @@ centre_held a = H.middle_held U a.re a.im (a.radius * U)
 
 same : (a : Ball) (x y : Exact) → x ≃ y → Holds a x → Holds a y
 same = H.same U
+
+pub zero_held : Holds origin nought
+unfolding centre
+zero_held = same origin (centre origin) nought (record { real = refl; imag = refl }) (centre_held origin)
 
 unit_held : Holds one (whole (pos (suc zero)))
 unfolding centre

@@ -106,6 +106,10 @@ touches a b = nat_le (square (ball (a.re -ℤ b.re) (a.im -ℤ b.im) 0)) ((a.rad
 
 -- ---- the arithmetic of discs
 
+-- 0 is (0, 0, 0)
+abbrev pub origin : Ball
+origin = ball (pos 0) (pos 0) 0
+
 -- 1 is (U, 0, 0)
 abbrev pub one : Ball
 one = ball (pos U) (pos 0) 0

@@ -1,6 +1,6 @@
 -- Formulas and equations, and the order in which they are worked out in an arithmetic.
 -- Assumes nothing.
-use Rattle.std.specs.Prelude.{ℕ, cond, List, [], ◌∷◌, eqb}
+use Rattle.std.specs.Prelude.{ℕ, suc, cond, List, [], ◌∷◌, ◌==◌}
 use Rattle.enclosure.specs.Arithmetic.{Outcome, known, then, Arithmetic, quotient}
 
 -- a formula: a quantity by its number, one, and sums, differences, products and quotients of formulas
@@ -29,10 +29,15 @@ number (a / b) = 0
 
 -- x gets the value v, and the others keep theirs
 abbrev pub keep : {A : Type 0} → Term → A → (ℕ → A) → ℕ → A
-keep x v ρ n = cond (eqb n (number x)) v (ρ n)
+keep x v ρ n = cond (n == number x) v (ρ n)
 
 abbrev pub at : {A : Type 0} → (ℕ → A) → Term → A
 at ρ x = ρ (number x)
+
+-- listed values, of which the first has the number n; the last one is that of all others too
+abbrev pub in_order : {A : Type 0} → ℕ → A → List A → ℕ → A
+in_order n x [] = λ _. x
+in_order n x (y ∷ ys) = keep (the n) x (in_order (suc n) y ys)
 
 -- ---- the order of work: brackets, then products, then sums, each from left to right
 
@@ -88,7 +93,15 @@ module _ {A : Type 0} (R : Arithmetic A) where
   abbrev pub work : Term → (ℕ → A) → Outcome A
   work t ρ = then (brackets t ρ) finish
 
+  -- the formula of listed values: the 1, the 2, ..
+  abbrev pub work_of : Term → A → List A → Outcome A
+  work_of t x xs = work t (in_order 1 x xs)
+
   -- equations in the order written; the first operation that is refused decides
   abbrev pub run : List Equation → (ℕ → A) → Outcome (ℕ → A)
   run [] ρ = known ρ
   run ((x ≔ t) ∷ es) ρ = then (work t ρ) λ v. run es (keep x v ρ)
+
+  -- and an answer read from their quantities
+  abbrev pub worked : {B : Type 0} → List Equation → (ℕ → A) → ((ℕ → A) → B) → Outcome B
+  worked es ρ read = then (run es ρ) λ ρ'. known (read ρ')

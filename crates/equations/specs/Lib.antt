@@ -1,4 +1,9 @@
 pub mod Formula
 pub mod Exactly
+pub mod Stages
 pub mod OnePort
 pub mod OnePortTruth
+pub mod TwoPort
+pub mod TwoPortTruth
+pub mod Exchange
+pub mod Scope

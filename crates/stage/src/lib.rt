@@ -1,0 +1,62 @@
+//! The stages of the working-out, and the refusal of one.
+#![tactic(auto)]
+
+ghost use Rattle.std.specs.Prelude.{◌≡◌};
+ghost use Rattle.stage.specs.Meaning.{noted, stage_number};
+
+use disc::Refusal;
+use std::error::Error;
+use std::fmt;
+
+/// A stage of the working-out, by its number.
+#[derive(Clone, Copy, PartialEq, Eq, Debug)]
+pub enum Stage {
+    /// The reflection terms of port 1.
+    Port1 = 1,
+    /// The reflection terms of port 2.
+    Port2 = 2,
+    /// The forward terms of the thru.
+    ForwardThru = 3,
+    /// The reverse terms of the thru.
+    ReverseThru = 4,
+    /// From raw to actual.
+    Correct = 5,
+    /// From actual to raw.
+    Embed = 6,
+}
+
+/// Why a stage is refused: by the cause that its working-out met.
+#[derive(Clone, Copy, PartialEq, Eq, Debug)]
+pub struct StageRefusal {
+    pub cause: Refusal,
+    pub stage: Stage,
+}
+
+impl Stage {
+    /// The number of the stage.
+    pub fn number(self) -> u8
+        ensures { result ≡ stage_number self }
+    {
+        self as u8
+    }
+
+    /// An answer of this stage: where it is refused, the stage is noted.
+    pub fn note<T>(self, answer: Result<T, Refusal>) -> Result<T, StageRefusal>
+        ensures { result ≡ noted self answer }
+    {
+        match answer {
+            Ok(value) => Ok(value),
+            Err(cause) => Err(StageRefusal { cause, stage: self }),
+        }
+    }
+}
+
+impl fmt::Display for StageRefusal {
+    fn fmt<W: fmt::Write>(&self, f: &mut fmt::Formatter<W>) -> fmt::Result {
+        let cause = self.cause;
+        let stage = self.stage.number();
+        write!(f, "{cause}, at stage {stage}")
+    }
+}
+
+impl Error for StageRefusal {}

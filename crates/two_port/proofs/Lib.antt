@@ -1,0 +1,2 @@
+pub mod Directed
+pub mod Keeping
