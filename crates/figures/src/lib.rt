@@ -1,7 +1,10 @@
-//! The worked figures of docs/figures.md that are proved, and the order of work by examples.
+//! The worked figures of docs/figures.md that are proved; of the equations, the order of work by
+//! examples, their scope, and the exchange of the two ports.
 #![tactic(auto)]
 
 ghost use Rattle.std.specs.Prelude.{◌≡◌, length};
+ghost use Rattle.equations.specs.Exchange.{Exchange};
+ghost use Rattle.equations.specs.Scope.{Scope};
 ghost use Rattle.figures.specs.Order.{Order};
 ghost use Rattle.figures.specs.Table.{AllRight, table};
 
@@ -10,6 +13,8 @@ pub fn proved() -> usize
     ensures count { result ≡ length table }
     ensures right { AllRight table }
     ensures order { Order }
+    ensures scope { Scope }
+    ensures exchange { Exchange }
 {
     10
 }

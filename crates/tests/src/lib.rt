@@ -1,4 +1,4 @@
-//! Tests, of discs and of one port.
+//! Tests, of discs, of one port and of two.
 #![tactic(auto)]
 
 #[cfg(test)]
@@ -7,3 +7,5 @@ mod answer;
 mod discs;
 #[cfg(test)]
 mod one_port;
+#[cfg(test)]
+mod two_port;

@@ -1,16 +1,9 @@
 //! One port against figures worked in exact fractions, and its refusals.
 use crate::answer::Answer::{Is, Refused};
-use crate::answer::{Answer, L, Numbers, U, disc, told};
+use crate::answer::{Answer, L, Numbers, U, disc, sol, told};
 use disc::{OutOfRange, Refusal};
 use one_port::{Sol, ThreeTerms};
 use std::test::Fail;
-
-fn sol(short: Numbers, open: Numbers, load: Numbers) -> Result<Sol, OutOfRange> {
-    let short = disc(short)?;
-    let open = disc(open)?;
-    let load = disc(load)?;
-    Ok(Sol { short, open, load })
-}
 
 fn three_terms(ed: Numbers, es: Numbers, er: Numbers) -> Result<ThreeTerms, OutOfRange> {
     let ed = disc(ed)?;

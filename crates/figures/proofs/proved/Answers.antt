@@ -1,6 +1,7 @@
 use mathlib.Core.Path.{refl}
+use Rattle.equations.proofs.Exchanges.{exchange_stands}
 use Rattle.figures.proofs.Worked.{figures_right, order_stands}
 use Rattle.figures.proofs.proved.Goals as goal
 
 pub returns : goal.returns
-returns c = record { count = refl; right = figures_right; order = order_stands }
+returns c = record { count = refl; right = figures_right; order = order_stands; scope = (refl, refl, refl, refl, refl, refl); exchange = exchange_stands }

@@ -1,0 +1,533 @@
+//! Two ports against figures worked in exact fractions, and the refusals of every stage.
+use crate::answer::Answer::{Is, RefusedAt};
+use crate::answer::{Answer, L, Numbers, U, disc, refused_at, shown, sol};
+use disc::{Disc, OutOfRange};
+use stage::StageRefusal;
+use std::process::Abort;
+use std::test::Fail;
+use two_port::{Direction, Isolation, Readings, SParameters, Standards, TwelveTerms};
+
+/// Short, open and load.
+type Three = [Numbers; 3];
+
+/// 11, 21, 12 and 22.
+type Four = [Numbers; 4];
+
+/// ED, ES, ER, EX, EL and ET.
+type Six = [Numbers; 6];
+
+const ZERO: Numbers = (0, 0, 0);
+
+const QUARTER: Numbers = (4_194_304, 0, 0);
+
+const HALF: Numbers = (8_388_608, 0, 0);
+
+const ONE: Numbers = (U, 0, 0);
+
+const MOST: Numbers = (L, 0, 0);
+
+const LEAST: Numbers = (-L, 0, 0);
+
+fn four(numbers: Four) -> Result<SParameters, OutOfRange> {
+    let [s11, s21, s12, s22] = numbers;
+    let s11 = disc(s11)?;
+    let s21 = disc(s21)?;
+    let s12 = disc(s12)?;
+    let s22 = disc(s22)?;
+    Ok(SParameters { s11, s21, s12, s22 })
+}
+
+fn direction(numbers: Six) -> Result<Direction, OutOfRange> {
+    let [ed, es, er, ex, el, et] = numbers;
+    let ed = disc(ed)?;
+    let es = disc(es)?;
+    let er = disc(er)?;
+    let ex = disc(ex)?;
+    let el = disc(el)?;
+    let et = disc(et)?;
+    Ok(Direction {
+        ed,
+        es,
+        er,
+        ex,
+        el,
+        et,
+    })
+}
+
+fn twelve(forward: Six, reverse: Six) -> Result<TwelveTerms, OutOfRange> {
+    let forward = direction(forward)?;
+    let reverse = direction(reverse)?;
+    Ok(TwelveTerms { forward, reverse })
+}
+
+fn standards(port1: Three, port2: Three, thru: Four) -> Result<Standards, OutOfRange> {
+    let [short, open, load] = port1;
+    let port1 = sol(short, open, load)?;
+    let [short, open, load] = port2;
+    let port2 = sol(short, open, load)?;
+    let thru = four(thru)?;
+    Ok(Standards { port1, port2, thru })
+}
+
+fn reading(isolation: Option<Numbers>) -> Result<Option<Disc>, OutOfRange> {
+    match isolation {
+        Some(numbers) => Ok(Some(disc(numbers)?)),
+        None => Ok(None),
+    }
+}
+
+fn readings(
+    of: Standards,
+    forward: Option<Numbers>,
+    reverse: Option<Numbers>,
+) -> Result<Readings, OutOfRange> {
+    let forward = reading(forward)?;
+    let reverse = reading(reverse)?;
+    Ok(Readings {
+        port1: of.port1,
+        port2: of.port2,
+        thru: of.thru,
+        isolation: Isolation { forward, reverse },
+    })
+}
+
+fn check_four(rt: &impl Abort, s: SParameters, want: [Answer; 4]) {
+    let [s11, s21, s12, s22] = want;
+    assert_eq!(rt; shown(s.s11), s11);
+    assert_eq!(rt; shown(s.s21), s21);
+    assert_eq!(rt; shown(s.s12), s12);
+    assert_eq!(rt; shown(s.s22), s22);
+}
+
+fn check_direction(rt: &impl Abort, d: Direction, want: [Answer; 6]) {
+    let [ed, es, er, ex, el, et] = want;
+    assert_eq!(rt; shown(d.ed), ed);
+    assert_eq!(rt; shown(d.es), es);
+    assert_eq!(rt; shown(d.er), er);
+    assert_eq!(rt; shown(d.ex), ex);
+    assert_eq!(rt; shown(d.el), el);
+    assert_eq!(rt; shown(d.et), et);
+}
+
+const IDEAL: Three = [(-U, 0, 0), ONE, ZERO];
+
+const FLUSH: Four = [ZERO, ONE, ONE, ZERO];
+
+/// Identity error boxes and a flush thru: a device comes back as itself.
+#[test]
+fn ideal_device(rt: HostRuntime) -> Result<(), Fail> {
+    let ideal = standards(IDEAL, IDEAL, FLUSH)?;
+    let terms = TwelveTerms::solve(ideal, readings(ideal, None, None)?)?;
+    check_direction(
+        &rt,
+        terms.forward,
+        [
+            Is(0, 0, 5),
+            Is(0, 0, 5),
+            Is(16_777_216, 0, 24),
+            Is(0, 0, 0),
+            Is(0, 0, 13),
+            Is(16_777_216, 0, 17),
+        ],
+    );
+    check_direction(
+        &rt,
+        terms.reverse,
+        [
+            Is(0, 0, 5),
+            Is(0, 0, 5),
+            Is(16_777_216, 0, 24),
+            Is(0, 0, 0),
+            Is(0, 0, 13),
+            Is(16_777_216, 0, 17),
+        ],
+    );
+    let device = four([
+        (8_388_608, 0, 0),
+        (0, 4_194_304, 0),
+        (0, -4_194_304, 0),
+        (-2_097_152, 2_097_152, 0),
+    ])?;
+    check_four(
+        &rt,
+        terms.correct(device)?,
+        [
+            Is(8_388_608, 0, 40),
+            Is(0, 4_194_304, 18),
+            Is(0, -4_194_304, 20),
+            Is(-2_097_152, 2_097_152, 25),
+        ],
+    );
+    check_four(
+        &rt,
+        terms.embed(device)?,
+        [
+            Is(8_388_608, 0, 35),
+            Is(0, 4_194_304, 14),
+            Is(0, -4_194_304, 14),
+            Is(-2_097_152, 2_097_152, 22),
+        ],
+    );
+    Ok(())
+}
+
+/// A lossy, mismatched analyser: EDF = 1/20 + i/50, ESF = 1/10 - i/20, ERF = 9/10 + i/10,
+/// EXF = 1/1000 - i/2000, ELF = -3/40 + i/25, ETF = 17/20 - i/5; EDR = -1/25 + 3i/100,
+/// ESR = 2/25 + 3i/50, ERR = 19/20 - i/20, EXR = -1/2000 + i/800, ELR = 1/16 - 3i/80,
+/// ETR = 4/5 + 3i/10. Its standards: at port 1 -99/100 + i/30, 97/100 - i/7 and 1/200 - i/300, at
+/// port 2 -49/50 - i/40, 24/25 + i/9 and -1/150 + i/250, and a thru of 1/40 - i/60, 9/10 - 2i/5
+/// both ways and -1/50 + i/70. They are listed to within 2 units.
+const PORT1: Three = [
+    (-16_609_444, 559_241, 2),
+    (16_273_900, -2_396_745, 2),
+    (83_886, -55_924, 2),
+];
+
+const PORT2: Three = [
+    (-16_441_672, -419_430, 2),
+    (16_106_127, 1_864_135, 2),
+    (-111_848, 67_109, 2),
+];
+
+const THRU: Four = [
+    (419_430, -279_620, 2),
+    (15_099_494, -6_710_886, 2),
+    (15_099_494, -6_710_886, 2),
+    (-335_544, 239_675, 2),
+];
+
+/// What is read of them, to within 2 units.
+const READ1: Three = [
+    (-12_752_373, -1_373_780, 2),
+    (17_077_313, -1_366_632, 2),
+    (919_953, 293_540, 2),
+];
+
+const READ2: Three = [
+    (-15_126_490, 1_712_819, 2),
+    (15_725_915, 2_714_215, 2),
+    (-773_904, 572_617, 2),
+];
+
+const READ_THRU: Four = [
+    (804_627, 1_305_594, 2),
+    (11_599_235, -8_723_845, 2),
+    (14_130_932, -917_168, 2),
+    (-825_613, -372_429, 2),
+];
+
+const FORWARD_LEAKAGE: Numbers = (16_777, -8_389, 2);
+
+const REVERSE_LEAKAGE: Numbers = (-8_389, 20_972, 2);
+
+fn lossy(
+    read_thru: Four,
+    forward: Option<Numbers>,
+    reverse: Option<Numbers>,
+) -> Result<Result<TwelveTerms, StageRefusal>, OutOfRange> {
+    let listed = standards(PORT1, PORT2, THRU)?;
+    let read = readings(standards(READ1, READ2, read_thru)?, forward, reverse)?;
+    Ok(TwelveTerms::solve(listed, read))
+}
+
+#[test]
+fn lossy_terms(rt: HostRuntime) -> Result<(), Fail> {
+    let terms = lossy(READ_THRU, Some(FORWARD_LEAKAGE), Some(REVERSE_LEAKAGE))??;
+    check_direction(
+        &rt,
+        terms.forward,
+        [
+            Is(838_862, 335_545, 10),
+            Is(1_677_721, -838_862, 17),
+            Is(15_099_493, 1_677_721, 44),
+            Is(16_777, -8_389, 2),
+            Is(-1_258_291, 671_087, 32),
+            Is(14_260_634, -3_355_443, 27),
+        ],
+    );
+    check_direction(
+        &rt,
+        terms.reverse,
+        [
+            Is(-671_088, 503_318, 10),
+            Is(1_342_177, 1_006_633, 16),
+            Is(15_938_353, -838_861, 43),
+            Is(-8_389, 20_972, 2),
+            Is(1_048_577, -629_147, 29),
+            Is(13_421_774, 5_033_163, 27),
+        ],
+    );
+    Ok(())
+}
+
+/// A device of 1/3 + 2i/7, 1/2 - 3i/8, 1/5 + i/6 and -1/4 + i/9, whose raw values were read to
+/// within 2 units.
+#[test]
+fn lossy_device(rt: HostRuntime) -> Result<(), Fail> {
+    let terms = lossy(READ_THRU, Some(FORWARD_LEAKAGE), Some(REVERSE_LEAKAGE))??;
+    let raw = four([
+        (5_332_904, 5_585_467, 2),
+        (6_228_031, -7_512_631, 2),
+        (1_850_631, 3_286_534, 2),
+        (-4_291_318, 2_358_299, 2),
+    ])?;
+    check_four(
+        &rt,
+        terms.correct(raw)?,
+        [
+            Is(5_592_403, 4_793_490, 71),
+            Is(8_388_604, -6_291_458, 65),
+            Is(3_355_441, 2_796_200, 35),
+            Is(-4_194_305, 1_864_133, 55),
+        ],
+    );
+    Ok(())
+}
+
+#[test]
+fn lossy_round_trip(rt: HostRuntime) -> Result<(), Fail> {
+    let terms = lossy(READ_THRU, Some(FORWARD_LEAKAGE), Some(REVERSE_LEAKAGE))??;
+    let device = four([
+        (5_592_405, 4_793_490, 2),
+        (8_388_608, -6_291_456, 2),
+        (3_355_443, 2_796_203, 2),
+        (-4_194_304, 1_864_135, 2),
+    ])?;
+    let raw = terms.embed(device)?;
+    check_four(
+        &rt,
+        raw,
+        [
+            Is(5_332_903, 5_585_466, 61),
+            Is(6_228_030, -7_512_632, 44),
+            Is(1_850_631, 3_286_534, 22),
+            Is(-4_291_317, 2_358_300, 46),
+        ],
+    );
+    check_four(
+        &rt,
+        terms.correct(raw)?,
+        [
+            Is(5_592_402, 4_793_489, 142),
+            Is(8_388_603, -6_291_459, 122),
+            Is(3_355_441, 2_796_200, 62),
+            Is(-4_194_304, 1_864_135, 109),
+        ],
+    );
+    Ok(())
+}
+
+/// The same analyser without leakage, and no isolation reading: leakage is exactly zero.
+#[test]
+fn no_isolation(rt: HostRuntime) -> Result<(), Fail> {
+    let read_thru = [
+        (804_627, 1_305_594, 2),
+        (11_582_458, -8_715_457, 2),
+        (14_139_321, -938_139, 2),
+        (-825_613, -372_429, 2),
+    ];
+    let terms = lossy(read_thru, None, None)??;
+    check_direction(
+        &rt,
+        terms.forward,
+        [
+            Is(838_862, 335_545, 10),
+            Is(1_677_721, -838_862, 17),
+            Is(15_099_493, 1_677_721, 44),
+            Is(0, 0, 0),
+            Is(-1_258_291, 671_087, 32),
+            Is(14_260_634, -3_355_444, 25),
+        ],
+    );
+    check_direction(
+        &rt,
+        terms.reverse,
+        [
+            Is(-671_088, 503_318, 10),
+            Is(1_342_177, 1_006_633, 16),
+            Is(15_938_353, -838_861, 43),
+            Is(0, 0, 0),
+            Is(1_048_577, -629_147, 29),
+            Is(13_421_774, 5_033_164, 25),
+        ],
+    );
+    let raw = four([
+        (5_332_904, 5_585_467, 2),
+        (6_211_254, -7_504_242, 2),
+        (1_859_020, 3_265_563, 2),
+        (-4_291_318, 2_358_299, 2),
+    ])?;
+    check_four(
+        &rt,
+        terms.correct(raw)?,
+        [
+            Is(5_592_403, 4_793_490, 71),
+            Is(8_388_605, -6_291_457, 61),
+            Is(3_355_442, 2_796_201, 33),
+            Is(-4_194_305, 1_864_133, 54),
+        ],
+    );
+    Ok(())
+}
+
+/// Leakage and isolation in the forward direction alone.
+#[test]
+fn forward_isolation(rt: HostRuntime) -> Result<(), Fail> {
+    let read_thru = [
+        (804_627, 1_305_594, 2),
+        (11_599_235, -8_723_845, 2),
+        (14_139_321, -938_139, 2),
+        (-825_613, -372_429, 2),
+    ];
+    let terms = lossy(read_thru, Some(FORWARD_LEAKAGE), None)??;
+    check_direction(
+        &rt,
+        terms.forward,
+        [
+            Is(838_862, 335_545, 10),
+            Is(1_677_721, -838_862, 17),
+            Is(15_099_493, 1_677_721, 44),
+            Is(16_777, -8_389, 2),
+            Is(-1_258_291, 671_087, 32),
+            Is(14_260_634, -3_355_443, 27),
+        ],
+    );
+    check_direction(
+        &rt,
+        terms.reverse,
+        [
+            Is(-671_088, 503_318, 10),
+            Is(1_342_177, 1_006_633, 16),
+            Is(15_938_353, -838_861, 43),
+            Is(0, 0, 0),
+            Is(1_048_577, -629_147, 29),
+            Is(13_421_774, 5_033_164, 25),
+        ],
+    );
+    Ok(())
+}
+
+fn solved(listed: Standards, read: Readings) -> Answer {
+    match TwelveTerms::solve(listed, read) {
+        Ok(terms) => shown(terms.forward.ed),
+        Err(refusal) => refused_at(refusal),
+    }
+}
+
+const EQUAL: Three = [ZERO, ZERO, ZERO];
+
+const LARGE: Three = [MOST, ONE, ZERO];
+
+/// Ports 1 and 2 as listed, ports 1 and 2 as read, and how the solve is refused: the first stage
+/// decides.
+const REFLECTIONS: [(Three, Three, Three, Three, Answer); 5] = [
+    (IDEAL, IDEAL, EQUAL, IDEAL, RefusedAt(8, 1)),
+    (LARGE, IDEAL, LARGE, IDEAL, RefusedAt(9, 1)),
+    (IDEAL, IDEAL, IDEAL, EQUAL, RefusedAt(8, 2)),
+    (IDEAL, LARGE, IDEAL, LARGE, RefusedAt(9, 2)),
+    (IDEAL, LARGE, EQUAL, LARGE, RefusedAt(8, 1)),
+];
+
+#[test]
+fn reflections_are_refused(rt: HostRuntime) -> Result<(), Fail> {
+    for (port1, port2, read1, read2, answer) in REFLECTIONS {
+        let listed = standards(port1, port2, FLUSH)?;
+        let read = readings(standards(read1, read2, FLUSH)?, None, None)?;
+        assert_eq!(rt; solved(listed, read), answer);
+    }
+    Ok(())
+}
+
+/// The listed thru, its reading and both isolation readings, with ideal shorts, opens and loads.
+const THRUS: [(Four, Four, Option<Numbers>, Option<Numbers>, Answer); 6] = [
+    // the divisor of ELF may be zero
+    ([ZERO, ZERO, ONE, ZERO], FLUSH, None, None, RefusedAt(8, 3)),
+    // T21 is zero
+    (
+        [QUARTER, ZERO, ONE, HALF],
+        FLUSH,
+        None,
+        None,
+        RefusedAt(8, 3),
+    ),
+    (
+        FLUSH,
+        [ZERO, MOST, ONE, ZERO],
+        Some(LEAST),
+        None,
+        RefusedAt(9, 3),
+    ),
+    // T12 is zero
+    (
+        [HALF, ONE, ZERO, QUARTER],
+        FLUSH,
+        None,
+        None,
+        RefusedAt(8, 4),
+    ),
+    (
+        FLUSH,
+        [ZERO, ONE, MOST, ZERO],
+        None,
+        Some(LEAST),
+        RefusedAt(9, 4),
+    ),
+    (
+        FLUSH,
+        [ZERO, MOST, MOST, ZERO],
+        Some(LEAST),
+        Some(LEAST),
+        RefusedAt(9, 3),
+    ),
+];
+
+#[test]
+fn thrus_are_refused(rt: HostRuntime) -> Result<(), Fail> {
+    for (thru, read_thru, forward, reverse, answer) in THRUS {
+        let listed = standards(IDEAL, IDEAL, thru)?;
+        let read = readings(standards(IDEAL, IDEAL, read_thru)?, forward, reverse)?;
+        assert_eq!(rt; solved(listed, read), answer);
+    }
+    Ok(())
+}
+
+fn transferred(answer: Result<SParameters, StageRefusal>) -> Answer {
+    match answer {
+        Ok(s) => shown(s.s11),
+        Err(refusal) => refused_at(refusal),
+    }
+}
+
+const PERFECT: Six = [ZERO, ZERO, ONE, ZERO, ZERO, ONE];
+
+#[test]
+fn corrections_are_refused(rt: HostRuntime) -> Result<(), Fail> {
+    let deaf = twelve(PERFECT, [ZERO, ZERO, ZERO, ZERO, ZERO, ONE])?;
+    assert_eq!(rt; transferred(deaf.correct(four(FLUSH)?)), RefusedAt(8, 5));
+    let shifted = twelve(PERFECT, [LEAST, ZERO, ONE, ZERO, ZERO, ONE])?;
+    let raw = four([ZERO, ZERO, ZERO, (1, 0, 0)])?;
+    assert_eq!(rt; transferred(shifted.correct(raw)), RefusedAt(9, 5));
+    Ok(())
+}
+
+#[test]
+fn embeddings_are_refused(rt: HostRuntime) -> Result<(), Fail> {
+    let resonant = [ZERO, ONE, ONE, ZERO, ZERO, ONE];
+    let forward = twelve(resonant, PERFECT)?;
+    assert_eq!(rt;
+        transferred(forward.embed(four([ONE, ZERO, ZERO, ZERO])?)),
+        RefusedAt(8, 6)
+    );
+    let reverse = twelve(PERFECT, resonant)?;
+    assert_eq!(rt;
+        transferred(reverse.embed(four([ZERO, ZERO, ZERO, ONE])?)),
+        RefusedAt(8, 6)
+    );
+    let large = four([MOST, ZERO, ZERO, (2 * U, 0, 0)])?;
+    assert_eq!(rt;
+        transferred(twelve(PERFECT, PERFECT)?.embed(large)),
+        RefusedAt(9, 6)
+    );
+    Ok(())
+}
