@@ -2,7 +2,7 @@
 -- Assumes nothing.
 use Rattle.std.proofs.Common.{◌≡◌, ℕ, Some, None, Option}
 use Rattle.exact.specs.Ring.{Ops, Field}
-use Rattle.enclosure.specs.Arithmetic.{known, Arithmetic, Encloses}
+use Rattle.enclosure.specs.Arithmetic.{Arithmetic, Encloses}
 use Rattle.equations.specs.Stages.{answered}
 use Rattle.equations.specs.Formula.{Term, number, keep}
 use Rattle.equations.specs.OnePort as OnePort
