@@ -1,5 +1,5 @@
 #!/usr/bin/env python3
-"""Respells this repository's own antt names: types in camel case, every other name in snake case.
+"""Respells this repository's own antt names: types in camel case, every other name in snake case; and the operators of formulas.
 
 usage: python3 tools/respell.py          at the top of the repository: rewrites the files below crates/ in place
        python3 tools/respell.py --list   prints the renamings and writes nothing
@@ -65,6 +65,26 @@ def imported(text):
         yield from (n.split(" as ")[-1].strip() for n in m[1].split(","))
 
 
+OPERATORS = {"+": "⊕", "-": "⊖", "*": "⊗", "/": "⊘"}
+OWN_FORMULAS = re.compile(r"(?m)^use Rattle\.equations\.specs\.Formula\.\{[^}]*◌\+◌[^}]*\}|^pub data Term : ")
+
+
+def formulas(text):
+    """The text with the operators of formulas respelled: in a file that declares or imports them, and where they stand behind `F.`."""
+    for old, new in OPERATORS.items():
+        text = text.replace(f"F.◌{old}◌", f"F.◌{new}◌")
+    if not OWN_FORMULAS.search(text):
+        return text
+    lines = text.split("\n")
+    for i, line in enumerate(lines):
+        if line.lstrip().startswith("--") or re.match(r"use (?!Rattle\.equations\.specs\.Formula\.)", line):
+            continue
+        for old, new in OPERATORS.items():
+            line = line.replace(f"◌{old}◌", f"◌{new}◌").replace(f" {old} ", f" {new} ")
+        lines[i] = line
+    return "\n".join(lines)
+
+
 def main(argv):
     root = os.getcwd()
     shared, own, types = {}, {}, set()
@@ -104,6 +124,8 @@ def main(argv):
         library = set(imported(text))
         names = {o: n for o, n in {**shared, **own.get(path, {})}.items() if o not in library}
         new = turned(text, names)
+        if path.endswith(".antt"):
+            new = formulas(new)
         if new != text:
             with open(path, "w", encoding="utf-8") as f:
                 f.write(new)

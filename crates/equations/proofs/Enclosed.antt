@@ -95,16 +95,16 @@ module _ {A : Type 0} (R : Arithmetic A) (O : Ops) (inv : O.C → O.C) (◌∋�
         → OfAnswer (λ r. Held r (exactly O inv t ε) × Defined O inv t ε) (brackets R t ρ)
     brackets_hold (the n) ρ ε h = yields (hval (h n), tt)
     brackets_hold one ρ ε h = yields (hval unit_held, tt)
-    brackets_hold (F.◌+◌ a b) ρ ε h =
+    brackets_hold (F.◌⊕◌ a b) ρ ε h =
         next (brackets_hold a ρ ε h) λ r p. next (brackets_hold b ρ ε h) λ s q.
         next (addend_holds s _ q.0) λ s' q'. yields (hadd p.0 q', (p.1, q.1))
-    brackets_hold (F.◌-◌ a b) ρ ε h =
+    brackets_hold (F.◌⊖◌ a b) ρ ε h =
         next (brackets_hold a ρ ε h) λ r p. next (brackets_hold b ρ ε h) λ s q.
         next (addend_holds s _ q.0) λ s' q'. yields (hsub p.0 q', (p.1, q.1))
-    brackets_hold (F.◌*◌ a b) ρ ε h =
+    brackets_hold (F.◌⊗◌ a b) ρ ε h =
         next (brackets_hold a ρ ε h) λ r p. next (addend_holds r _ p.0) λ r' p'.
         next (brackets_hold b ρ ε h) λ s q. next (factor_holds s _ q.0) λ s' q'. yields (hmul p' q', (p.1, q.1))
-    brackets_hold (F.◌/◌ a b) ρ ε h =
+    brackets_hold (F.◌⊘◌ a b) ρ ε h =
         next (brackets_hold a ρ ε h) λ r p. next (finish_holds r _ p.0) λ x p'.
         next (brackets_hold b ρ ε h) λ s q. next (finish_holds s _ q.0) λ y q'.
         next (quotient_holds x y _ _ p' q') λ e k. yields (hval k.1, (p.1, q.1, k.0))

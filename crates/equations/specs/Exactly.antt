@@ -14,10 +14,10 @@ module _ (O : Ops) (inv : O.C → O.C) where
   abbrev pub exactly : Term → (ℕ → C) → C
   exactly (the n) ε = ε n
   exactly one ε = 𝟙
-  exactly (F.◌+◌ a b) ε = exactly a ε + exactly b ε
-  exactly (F.◌-◌ a b) ε = exactly a ε + neg (exactly b ε)
-  exactly (F.◌*◌ a b) ε = exactly a ε * exactly b ε
-  exactly (F.◌/◌ a b) ε = exactly a ε * inv (exactly b ε)
+  exactly (F.◌⊕◌ a b) ε = exactly a ε + exactly b ε
+  exactly (F.◌⊖◌ a b) ε = exactly a ε + neg (exactly b ε)
+  exactly (F.◌⊗◌ a b) ε = exactly a ε * exactly b ε
+  exactly (F.◌⊘◌ a b) ε = exactly a ε * inv (exactly b ε)
 
   abbrev pub run_exactly : List Equation → (ℕ → C) → ℕ → C
   run_exactly [] ε = ε
@@ -27,10 +27,10 @@ module _ (O : Ops) (inv : O.C → O.C) where
   abbrev pub Defined : Term → (ℕ → C) → Type 0
   Defined (the n) ε = Unit {0}
   Defined one ε = Unit {0}
-  Defined (F.◌+◌ a b) ε = Defined a ε × Defined b ε
-  Defined (F.◌-◌ a b) ε = Defined a ε × Defined b ε
-  Defined (F.◌*◌ a b) ε = Defined a ε × Defined b ε
-  Defined (F.◌/◌ a b) ε = Defined a ε × Defined b ε × (¬ (exactly b ε ≈ 𝟘))
+  Defined (F.◌⊕◌ a b) ε = Defined a ε × Defined b ε
+  Defined (F.◌⊖◌ a b) ε = Defined a ε × Defined b ε
+  Defined (F.◌⊗◌ a b) ε = Defined a ε × Defined b ε
+  Defined (F.◌⊘◌ a b) ε = Defined a ε × Defined b ε × (¬ (exactly b ε ≈ 𝟘))
 
   abbrev pub AllDefined : List Equation → (ℕ → C) → Type 0
   AllDefined [] ε = Unit {0}

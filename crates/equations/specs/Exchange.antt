@@ -3,7 +3,7 @@
 use Rattle.std.specs.Prelude.{◌≡◌, ℕ, cond, List, [], ◌∷◌, ◌==◌}
 use Rattle.enclosure.specs.Arithmetic.{Outcome, Arithmetic}
 use Rattle.enclosure.specs.Discs.{Ball, discs}
-use Rattle.equations.specs.Formula.{Term, Equation, the, one, ◌+◌, ◌-◌, ◌*◌, ◌/◌, ◌≔◌, number, keep, at, worked}
+use Rattle.equations.specs.Formula.{Term, Equation, the, one, ◌⊕◌, ◌⊖◌, ◌⊗◌, ◌⊘◌, ◌≔◌, number, keep, at, worked}
 use Rattle.equations.specs.OnePort.{ThreeTerms}
 use Rattle.equations.specs.TwoPort.{EDF, ESF, ERF, EXF, ELF, ETF, EDR, ESR, ERR, EXR, ELR, ETR, S11, S21, S12, S22, M11, M21, M12, M22, T11, T21, T12, T22, R11, R21, R12, R22, thru, embed, SParameters, Direction, Seen, exchange, with_reverse, directed, seen}
 
@@ -20,10 +20,10 @@ partner (p ∷ ps) n = cond (n == number p.0) p.1 (cond (n == number p.1) p.0 (p
 abbrev pub renamed : Term → Term
 renamed (the n) = partner pairs n
 renamed one = one
-renamed (a + b) = renamed a + renamed b
-renamed (a - b) = renamed a - renamed b
-renamed (a * b) = renamed a * renamed b
-renamed (a / b) = renamed a / renamed b
+renamed (a ⊕ b) = renamed a ⊕ renamed b
+renamed (a ⊖ b) = renamed a ⊖ renamed b
+renamed (a ⊗ b) = renamed a ⊗ renamed b
+renamed (a ⊘ b) = renamed a ⊘ renamed b
 
 abbrev pub exchanged : List Equation → List Equation
 exchanged [] = []

@@ -4,12 +4,12 @@ use Rattle.std.specs.Prelude.{ℕ, suc, cond, List, [], ◌∷◌, ◌==◌}
 use Rattle.enclosure.specs.Arithmetic.{Outcome, known, then, Arithmetic, quotient}
 
 -- a formula: a quantity by its number, one, and sums, differences, products and quotients of formulas
-infixl 80 ◌+◌ ◌-◌
-infixl 90 ◌*◌ ◌/◌
+infixl 80 ◌⊕◌ ◌⊖◌
+infixl 90 ◌⊗◌ ◌⊘◌
 pub data Term : Type 0 where
   the : ℕ → Term
   one : Term
-  ◌+◌ ◌-◌ ◌*◌ ◌/◌ : Term → Term → Term
+  ◌⊕◌ ◌⊖◌ ◌⊗◌ ◌⊘◌ : Term → Term → Term
 
 -- the quantity on the left is the formula on the right
 infix 70 ◌≔◌
@@ -20,10 +20,10 @@ pub data Equation : Type 0 where
 abbrev pub number : Term → ℕ
 number (the n) = n
 number one = 0
-number (a + b) = 0
-number (a - b) = 0
-number (a * b) = 0
-number (a / b) = 0
+number (a ⊕ b) = 0
+number (a ⊖ b) = 0
+number (a ⊗ b) = 0
+number (a ⊘ b) = 0
 
 -- ---- values for the quantities, by their numbers
 
@@ -85,10 +85,10 @@ module _ {A : Type 0} (R : Arithmetic A) where
   abbrev pub brackets : Term → (ℕ → A) → Outcome (Open A)
   brackets (the n) ρ = known (value (ρ n))
   brackets one ρ = known (value R.unit)
-  brackets (a + b) ρ = then (brackets a ρ) λ r. then (brackets b ρ) λ s. then (addend s) λ t. known (sum r t)
-  brackets (a - b) ρ = then (brackets a ρ) λ r. then (brackets b ρ) λ s. then (addend s) λ t. known (difference r t)
-  brackets (a * b) ρ = then (brackets a ρ) λ r. then (addend r) λ u. then (brackets b ρ) λ s. then (factor s) λ t. known (product u t)
-  brackets (a / b) ρ = then (brackets a ρ) λ r. then (finish r) λ x. then (brackets b ρ) λ s. then (finish s) λ y. then (quotient R x y) λ q. known (value q)
+  brackets (a ⊕ b) ρ = then (brackets a ρ) λ r. then (brackets b ρ) λ s. then (addend s) λ t. known (sum r t)
+  brackets (a ⊖ b) ρ = then (brackets a ρ) λ r. then (brackets b ρ) λ s. then (addend s) λ t. known (difference r t)
+  brackets (a ⊗ b) ρ = then (brackets a ρ) λ r. then (addend r) λ u. then (brackets b ρ) λ s. then (factor s) λ t. known (product u t)
+  brackets (a ⊘ b) ρ = then (brackets a ρ) λ r. then (finish r) λ x. then (brackets b ρ) λ s. then (finish s) λ y. then (quotient R x y) λ q. known (value q)
 
   abbrev pub work : Term → (ℕ → A) → Outcome A
   work t ρ = then (brackets t ρ) finish

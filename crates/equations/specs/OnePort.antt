@@ -2,7 +2,7 @@
 -- Assumes nothing.
 use Rattle.std.specs.Prelude.{List, [], ◌∷◌, ◌++◌, ℕ}
 use Rattle.enclosure.specs.Arithmetic.{Outcome, known, then, Arithmetic}
-use Rattle.equations.specs.Formula.{Term, Equation, the, one, ◌+◌, ◌-◌, ◌*◌, ◌/◌, ◌≔◌, keep, at, run}
+use Rattle.equations.specs.Formula.{Term, Equation, the, one, ◌⊕◌, ◌⊖◌, ◌⊗◌, ◌⊘◌, ◌≔◌, keep, at, run}
 
 -- the listed short, open and load, and their readings
 abbrev pub G1 : Term
@@ -81,28 +81,28 @@ m = the 23
 
 abbrev pub solve_differences : List Equation
 solve_differences =
-    P1 ≔ G1 * M1
-    ∷ P2 ≔ G2 * M2
-    ∷ P3 ≔ G3 * M3
-    ∷ a1 ≔ P1 - P3
-    ∷ a2 ≔ P2 - P3
-    ∷ b1 ≔ G1 - G3
-    ∷ b2 ≔ G2 - G3
-    ∷ c1 ≔ M1 - M3
-    ∷ c2 ≔ M2 - M3
+    P1 ≔ G1 ⊗ M1
+    ∷ P2 ≔ G2 ⊗ M2
+    ∷ P3 ≔ G3 ⊗ M3
+    ∷ a1 ≔ P1 ⊖ P3
+    ∷ a2 ≔ P2 ⊖ P3
+    ∷ b1 ≔ G1 ⊖ G3
+    ∷ b2 ≔ G2 ⊖ G3
+    ∷ c1 ≔ M1 ⊖ M3
+    ∷ c2 ≔ M2 ⊖ M3
     ∷ []
 
 abbrev pub solve_quotients : List Equation
 solve_quotients =
-    V ≔ a1 * b2 - a2 * b1
-    ∷ ES ≔ (c1 * b2 - c2 * b1) / V
-    ∷ z ≔ (a1 * c2 - a2 * c1) / V
+    V ≔ a1 ⊗ b2 ⊖ a2 ⊗ b1
+    ∷ ES ≔ (c1 ⊗ b2 ⊖ c2 ⊗ b1) ⊘ V
+    ∷ z ≔ (a1 ⊗ c2 ⊖ a2 ⊗ c1) ⊘ V
     ∷ []
 
 abbrev pub solve_terms : List Equation
 solve_terms =
-    ED ≔ M3 - P3 * ES - G3 * z
-    ∷ ER ≔ z + ED * ES
+    ED ≔ M3 ⊖ P3 ⊗ ES ⊖ G3 ⊗ z
+    ∷ ER ≔ z ⊕ ED ⊗ ES
     ∷ []
 
 -- from standards to terms
@@ -112,14 +112,14 @@ solve = solve_differences ++ solve_quotients ++ solve_terms
 -- from raw to actual
 abbrev pub correct : List Equation
 correct =
-    m ≔ M - ED
-    ∷ S ≔ m / (ER + m * ES)
+    m ≔ M ⊖ ED
+    ∷ S ≔ m ⊘ (ER ⊕ m ⊗ ES)
     ∷ []
 
 -- from actual to raw
 abbrev pub embed : List Equation
 embed =
-    M ≔ ED + (ER * S) / (one - ES * S)
+    M ≔ ED ⊕ (ER ⊗ S) ⊘ (one ⊖ ES ⊗ S)
     ∷ []
 
 -- ---- what goes in and comes out

@@ -1,7 +1,7 @@
 -- No equation reads a quantity before it is given or worked out.
 -- Assumes nothing.
 use Rattle.std.specs.Prelude.{◌≡◌, ℕ, Bool, true, false, ◌&&◌, ◌||◌, List, [], ◌∷◌, ◌==◌}
-use Rattle.equations.specs.Formula.{Term, Equation, the, one, ◌+◌, ◌-◌, ◌*◌, ◌/◌, ◌≔◌, number}
+use Rattle.equations.specs.Formula.{Term, Equation, the, one, ◌⊕◌, ◌⊖◌, ◌⊗◌, ◌⊘◌, ◌≔◌, number}
 use Rattle.equations.specs.OnePort as OnePort
 use Rattle.equations.specs.OnePort.{G1, G2, G3, M1, M2, M3, ED, ES, ER, S, M}
 use Rattle.equations.specs.TwoPort as TwoPort
@@ -15,10 +15,10 @@ among (x ∷ xs) n = n == number x || among xs n
 abbrev pub reads : List Term → Term → Bool
 reads xs (the n) = among xs n
 reads xs one = true
-reads xs (a + b) = reads xs a && reads xs b
-reads xs (a - b) = reads xs a && reads xs b
-reads xs (a * b) = reads xs a && reads xs b
-reads xs (a / b) = reads xs a && reads xs b
+reads xs (a ⊕ b) = reads xs a && reads xs b
+reads xs (a ⊖ b) = reads xs a && reads xs b
+reads xs (a ⊗ b) = reads xs a && reads xs b
+reads xs (a ⊘ b) = reads xs a && reads xs b
 
 -- the equations do, with what those before them work out
 abbrev pub read_in_turn : List Term → List Equation → Bool

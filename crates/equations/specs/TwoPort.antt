@@ -2,7 +2,7 @@
 -- Assumes nothing.
 use Rattle.std.specs.Prelude.{ℕ, List, [], ◌∷◌, Some, None, Option}
 use Rattle.enclosure.specs.Arithmetic.{Outcome, known, then, Arithmetic}
-use Rattle.equations.specs.Formula.{Term, Equation, the, one, ◌+◌, ◌-◌, ◌*◌, ◌/◌, ◌≔◌, keep, at, worked}
+use Rattle.equations.specs.Formula.{Term, Equation, the, one, ◌⊕◌, ◌⊖◌, ◌⊗◌, ◌⊘◌, ◌≔◌, keep, at, worked}
 use Rattle.equations.specs.OnePort as OnePort
 use Rattle.equations.specs.OnePort.{Sol, ThreeTerms}
 use Rattle.equations.specs.Stages.{Staged, answered, noting, and_then}
@@ -130,34 +130,34 @@ Q = the 37
 -- from the forward reading of a thru to the load match and the transmission tracking
 abbrev pub thru : List Equation
 thru =
-    K ≔ T11 * T22 - T21 * T12
-    ∷ m ≔ R11 - EDF
-    ∷ ELF ≔ (m * (one - ESF * T11) - ERF * T11) / (m * (T22 - ESF * K) - ERF * K)
-    ∷ W ≔ one - ESF * T11 - ELF * T22 + ESF * ELF * K
-    ∷ ETF ≔ ((R21 - EXF) * W) / T21
+    K ≔ T11 ⊗ T22 ⊖ T21 ⊗ T12
+    ∷ m ≔ R11 ⊖ EDF
+    ∷ ELF ≔ (m ⊗ (one ⊖ ESF ⊗ T11) ⊖ ERF ⊗ T11) ⊘ (m ⊗ (T22 ⊖ ESF ⊗ K) ⊖ ERF ⊗ K)
+    ∷ W ≔ one ⊖ ESF ⊗ T11 ⊖ ELF ⊗ T22 ⊕ ESF ⊗ ELF ⊗ K
+    ∷ ETF ≔ ((R21 ⊖ EXF) ⊗ W) ⊘ T21
     ∷ []
 
 -- from raw to actual
 abbrev pub correct : List Equation
 correct =
-    a ≔ (M11 - EDF) / ERF
-    ∷ b ≔ (M22 - EDR) / ERR
-    ∷ c ≔ (M21 - EXF) / ETF
-    ∷ d ≔ (M12 - EXR) / ETR
-    ∷ D ≔ (one + a * ESF) * (one + b * ESR) - c * d * ELF * ELR
-    ∷ S11 ≔ (a * (one + b * ESR) - ELF * c * d) / D
-    ∷ S21 ≔ (c * (one + b * (ESR - ELF))) / D
-    ∷ S12 ≔ (d * (one + a * (ESF - ELR))) / D
-    ∷ S22 ≔ (b * (one + a * ESF) - ELR * c * d) / D
+    a ≔ (M11 ⊖ EDF) ⊘ ERF
+    ∷ b ≔ (M22 ⊖ EDR) ⊘ ERR
+    ∷ c ≔ (M21 ⊖ EXF) ⊘ ETF
+    ∷ d ≔ (M12 ⊖ EXR) ⊘ ETR
+    ∷ D ≔ (one ⊕ a ⊗ ESF) ⊗ (one ⊕ b ⊗ ESR) ⊖ c ⊗ d ⊗ ELF ⊗ ELR
+    ∷ S11 ≔ (a ⊗ (one ⊕ b ⊗ ESR) ⊖ ELF ⊗ c ⊗ d) ⊘ D
+    ∷ S21 ≔ (c ⊗ (one ⊕ b ⊗ (ESR ⊖ ELF))) ⊘ D
+    ∷ S12 ≔ (d ⊗ (one ⊕ a ⊗ (ESF ⊖ ELR))) ⊘ D
+    ∷ S22 ≔ (b ⊗ (one ⊕ a ⊗ ESF) ⊖ ELR ⊗ c ⊗ d) ⊘ D
     ∷ []
 
 -- from actual to raw, in the forward direction
 abbrev pub embed : List Equation
 embed =
-    K ≔ S11 * S22 - S21 * S12
-    ∷ Q ≔ one - ESF * S11 - ELF * S22 + ESF * ELF * K
-    ∷ M11 ≔ EDF + (ERF * (S11 - ELF * K)) / Q
-    ∷ M21 ≔ EXF + (ETF * S21) / Q
+    K ≔ S11 ⊗ S22 ⊖ S21 ⊗ S12
+    ∷ Q ≔ one ⊖ ESF ⊗ S11 ⊖ ELF ⊗ S22 ⊕ ESF ⊗ ELF ⊗ K
+    ∷ M11 ≔ EDF ⊕ (ERF ⊗ (S11 ⊖ ELF ⊗ K)) ⊘ Q
+    ∷ M21 ≔ EXF ⊕ (ETF ⊗ S21) ⊘ Q
     ∷ []
 
 -- ---- what goes in and comes out

@@ -4,8 +4,8 @@
 #[cfg(test)]
 mod answer;
 #[cfg(test)]
+mod at_one_port;
+#[cfg(test)]
+mod at_two_ports;
+#[cfg(test)]
 mod discs;
-#[cfg(test)]
-mod one_port;
-#[cfg(test)]
-mod two_port;

@@ -232,7 +232,7 @@ fn lossy(
 }
 
 #[test]
-fn lossy_terms(rt: HostRuntime) -> Result<(), Fail> {
+fn lossy_twelve_terms(rt: HostRuntime) -> Result<(), Fail> {
     let terms = lossy(READ_THRU, Some(FORWARD_LEAKAGE), Some(REVERSE_LEAKAGE))??;
     check_direction(
         &rt,
@@ -264,7 +264,7 @@ fn lossy_terms(rt: HostRuntime) -> Result<(), Fail> {
 /// A device of 1/3 + 2i/7, 1/2 - 3i/8, 1/5 + i/6 and -1/4 + i/9, whose raw values were read to
 /// within 2 units.
 #[test]
-fn lossy_device(rt: HostRuntime) -> Result<(), Fail> {
+fn lossy_two_port(rt: HostRuntime) -> Result<(), Fail> {
     let terms = lossy(READ_THRU, Some(FORWARD_LEAKAGE), Some(REVERSE_LEAKAGE))??;
     let raw = four([
         (5_332_904, 5_585_467, 2),
@@ -286,7 +286,7 @@ fn lossy_device(rt: HostRuntime) -> Result<(), Fail> {
 }
 
 #[test]
-fn lossy_round_trip(rt: HostRuntime) -> Result<(), Fail> {
+fn lossy_two_port_round_trip(rt: HostRuntime) -> Result<(), Fail> {
     let terms = lossy(READ_THRU, Some(FORWARD_LEAKAGE), Some(REVERSE_LEAKAGE))??;
     let device = four([
         (5_592_405, 4_793_490, 2),
