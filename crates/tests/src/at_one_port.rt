@@ -71,6 +71,15 @@ fn equal_readings_are_refused(rt: HostRuntime) -> Result<(), Fail> {
     Ok(())
 }
 
+#[test]
+fn equal_readings_off_zero_are_refused(rt: HostRuntime) -> Result<(), Fail> {
+    let ideal = sol((-U, 0, 0), (U, 0, 0), (0, 0, 0))?;
+    let equal = (8_388_608, -4_194_304, 3);
+    let read = sol(equal, equal, equal)?;
+    assert_eq!(rt; solved(ideal, read), Refused(8));
+    Ok(())
+}
+
 /// V may be zero, and the product c1 b2 above it is off scale: that comes first.
 #[test]
 fn dividend_before_divisor(rt: HostRuntime) -> Result<(), Fail> {

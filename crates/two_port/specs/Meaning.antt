@@ -29,11 +29,11 @@ abbrev pub isolated : Option Disc → Option Ball
 isolated (Some d) = Some (meaning d)
 isolated None = None
 
-abbrev pub isolation : Isolation → Model.Isolation Ball
-isolation i = record { forward = isolated i.forward; reverse = isolated i.reverse }
+abbrev pub isolations : Isolation → Model.Isolation Ball
+isolations i = record { forward = isolated i.forward; reverse = isolated i.reverse }
 
 abbrev pub readings : Readings → Model.Readings Ball
-readings m = record { port1 = sol m.port1; port2 = sol m.port2; thru = parameters m.thru; isolation = isolation m.isolation }
+readings m = record { port1 = sol m.port1; port2 = sol m.port2; thru = parameters m.thru; isolation = isolations m.isolation }
 
 abbrev pub seen : Seen → Model.Seen Ball
 seen v = record { reflected = meaning v.reflected; transmitted = meaning v.transmitted }
