@@ -38,9 +38,11 @@ def declared(path, text):
         if line.lstrip().startswith("--"):
             continue
         m = SIGNATURE.match(line)
-        if not m or re.search(r"[=≔]|\blet\b", line[: m.start("type")]):
+        names = m["names"].split() if m else []
+        # a line of a proof, or a type that goes on
+        if not m or {"→", "_"} & {*names} or re.search(r"[=≔]|\blet\b", line[: m.start("type")]):
             continue
-        for name in m["names"].split():
+        for name in names:
             if "-" not in name or "◌" in name or m["type"].strip() == f"goal.{name}":
                 continue
             seen = "pub" in m["words"].split() or (m["indent"] and "data " in text)
@@ -87,16 +89,13 @@ def formulas(text):
 
 def main(argv):
     root = os.getcwd()
-    shared, own, types = {}, {}, set()
+    shared, own, bad = {}, {}, []
     for path in files(root, ".antt"):
         for name, seen, is_type in declared(path, read(path)):
             where = shared if seen else own.setdefault(path, {})
             new = spelled(name, is_type)
             if where.setdefault(name, new) != new:
-                # a field or a variable of this name beside a type: the type decides
-                types.add(name)
-                where[name] = max(where[name], new, key=lambda it: it[0].isupper() and "_" not in it)
-    bad = []
+                bad.append(f"{name} is a type in one place and none in another")
     by_new = {}
     for old, new in shared.items():
         if by_new.setdefault(new, old) != old:

@@ -24,9 +24,9 @@ impl Disc {
 
     /// The numbers of the disc.
     pub fn to_plain(self) -> PlainDisc
-        ensures re { result.re ≡ self.re }
-        ensures im { result.im ≡ self.im }
-        ensures radius { result.radius ≡ pos self.radius }
+        ensures re { result.re ≡ (meaning self).re }
+        ensures im { result.im ≡ (meaning self).im }
+        ensures radius { result.radius ≡ pos (meaning self).radius }
     {
         PlainDisc {
             re: self.re,

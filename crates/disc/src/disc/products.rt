@@ -10,7 +10,8 @@ use crate::refusal::Refusal;
 
 /// The product of two parts, in units of 2^-48.
 fn part_product(a: i64, b: i64) -> i64
-    requires { (unsigned_abs a ≤ 2 ^ 30) × (unsigned_abs b ≤ 2 ^ 30) }
+    requires a_fits { unsigned_abs a ≤ 2 ^ 30 }
+    requires b_fits { unsigned_abs b ≤ 2 ^ 30 }
     ensures value { result ≡ a *ℤ b }
     ensures bound { unsigned_abs result ≤ 2 ^ 60 }
 {

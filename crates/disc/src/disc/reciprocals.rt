@@ -13,7 +13,8 @@ const ONE_SQUARED: u64 = 281_474_976_710_656;
 
 /// `z` times 2^48 by `e`, rounded down, below zero too.
 fn floor_by(z: i64, e: u64) -> i128
-    requires { (0 < e) × (unsigned_abs z ≤ 2 ^ 30) }
+    requires positive { 0 < e }
+    requires z_fits { unsigned_abs z ≤ 2 ^ 30 }
     ensures { result ≡ down (z *ℤ pos (2 ^ 48)) e }
 {
     (z as i128 * ONE_SQUARED as i128).div_euclid(e as i128)
