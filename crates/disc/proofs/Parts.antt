@@ -1,53 +1,45 @@
--- What the parts of an answer come to, and the answer that they make.
-use Rattle.std.proofs.Common.{◌≡◌, ℕ, zero, suc, ◌*◌, ◌^◌, ◌≤◌, Bool, true, false, cond, ℤ, pos, negsuc, ◌+ℤ◌, ◌-ℤ◌, ◌*ℤ◌, neg_ℤ, nat_abs, refl, ap, ◌∙◌, mul-le-mul, arith, w64, SFits, to_z, of_z}
-use borrow.Author.Differences.{ints}
-use Rattle.enclosure.specs.Discs.{Ball, ranged, in_range, scaled, made, ball, down}
-use Rattle.enclosure.specs.Arithmetic.{Outcome, known, refused}
+-- What the parts of an answer come to.
+use Rattle.std.proofs.Common.{◌≡◌, ◌^◌, ◌≤◌, ℕ, ℤ, pos, negsuc, ◌+ℤ◌, ◌-ℤ◌, ◌*ℤ◌, unsigned_abs, FitsSigned, w64, to_z, of_z, Result, refl, mul-le-mul, arith}
+use Rattle.std.proofs.lemmas.Int.{ints, to_z-of_z, unsigned_abs-mul}
+use Rattle.std.specs.Int.{int_div_euclid}
+use Rattle.enclosure.specs.declared.refusal.Refusal.{Refusal}
+use Rattle.enclosure.specs.Discs.{Ball, ball, scaled, down, real_part, imaginary_part}
+use Rattle.disc.specs.declared.disc.Disc.TheInside.{Inside}
+use Rattle.disc.specs.contracts.disc.Disc.{the_view, the_invariant}
 
 -- equal numbers, one answer
-pub same_scaled : {o : Outcome Ball} {x x' y y' : ℤ} {n n' : ℕ} → o ≡ scaled (ball x y n) → x ≡ x' → y ≡ y' → n ≡ n' → o ≡ scaled (ball x' y' n')
-same_scaled {x' = x'} {y = y} {y' = y'} {n = n} {n' = n'} e p q r =
-    e ∙ ap (λ (z : ℤ). scaled (ball z y n)) p ∙ ap (λ (z : ℤ). scaled (ball x' z n)) q ∙ ap (λ (z : ℕ). scaled (ball x' y' z)) r
+pub same_scaled : {r : Result Ball Refusal} {x x' y y' : ℤ} {n n' : ℕ} → r ≡ scaled (ball x y n) → x ≡ x' → y ≡ y' → n ≡ n' → r ≡ scaled (ball x' y' n')
+same_scaled e p q s = cc
 
-abs_neg : (z : ℤ) → nat_abs (neg_ℤ z) ≡ nat_abs z
-abs_neg (pos zero) = refl
-abs_neg (pos (suc n)) = refl
-abs_neg (negsuc n) = refl
+pub div_euclid_is : (z : ℤ) (e : ℕ) → int_div_euclid z (pos e) ≡ down z e
+div_euclid_is (pos a) e = refl
+div_euclid_is (negsuc a) e = refl
 
-abs_product : (a b : ℤ) → nat_abs (a *ℤ b) ≡ nat_abs a * nat_abs b
-abs_product (pos a) (pos b) = refl
-abs_product (pos a) (negsuc b) = abs_neg (pos (a * suc b))
-abs_product (negsuc a) (pos b) = abs_neg (pos (suc a * b))
-abs_product (negsuc a) (negsuc b) = refl
+-- a number as 64 bits hold it
+abbrev pub held : ℤ → ℤ
+held z = to_z w64 (of_z w64 z)
 
-pub product_most : (a b : ℤ) (m n : ℕ) → nat_abs a ≤ m → nat_abs b ≤ n → nat_abs (a *ℤ b) ≤ m * n
-product_most a b m n p q = omega (arith, abs_product a b, mul-le-mul p q)
+product_most : (a b : ℤ) → unsigned_abs a ≤ 2 ^ 30 → unsigned_abs b ≤ 2 ^ 30 → unsigned_abs (a *ℤ b) ≤ 2 ^ 60
+product_most a b p q = omega (arith, unsigned_abs-mul a b, mul-le-mul p q)
 
-pub same_down : {z z' : ℤ} {e e' : ℕ} → z ≡ z' → e ≡ e' → down z e ≡ down z' e'
-same_down {z' = z'} {e = e} p q = ap (λ (y : ℤ). down y e) p ∙ ap (λ (n : ℕ). down z' n) q
+pub product_held : (a b : ℤ) → unsigned_abs a ≤ 2 ^ 30 → unsigned_abs b ≤ 2 ^ 30 → FitsSigned w64 (held a *ℤ held b) × (held (held a *ℤ held b) ≡ a *ℤ b)
+product_held a b p q =
+    let m = product_most a b p q in
+    let f : FitsSigned w64 a = omega (arith, ints) in
+    let g : FitsSigned w64 b = omega (arith, ints) in
+    let h : FitsSigned w64 (a *ℤ b) = omega (arith, ints) in
+    (simp to_z-of_z h, simp to_z-of_z)
 
--- sums and differences of products fit, and are read back
-pub sum_fits : (p q : ℤ) → nat_abs p ≤ 2 ^ 60 → nat_abs q ≤ 2 ^ 60 → SFits w64 (to_z w64 (of_z w64 p) +ℤ to_z w64 (of_z w64 q))
-sum_fits p q h k = omega (arith, ints)
+-- the parts of a product, before they are rounded
+module _ (a b : Inside) (p : the_invariant a) (q : the_invariant b) where
+  pub real_held : FitsSigned w64 (held (held a.re *ℤ held b.re) -ℤ held (held a.im *ℤ held b.im)) × (held (held (held a.re *ℤ held b.re) -ℤ held (held a.im *ℤ held b.im)) ≡ real_part (the_view a) (the_view b))
+  real_held =
+      let m = product_most a.re b.re p.0 q.0 in
+      let n = product_most a.im b.im p.1 q.1 in
+      rw ((product_held a.re b.re p.0 q.0).1, (product_held a.im b.im p.1 q.1).1) (omega (arith, ints), omega (arith, ints))
 
-pub difference_fits : (p q : ℤ) → nat_abs p ≤ 2 ^ 60 → nat_abs q ≤ 2 ^ 60 → SFits w64 (to_z w64 (of_z w64 p) -ℤ to_z w64 (of_z w64 q))
-difference_fits p q h k = omega (arith, ints)
-
-pub sum_read : (p q : ℤ) {x y : ℤ} → nat_abs p ≤ 2 ^ 60 → nat_abs q ≤ 2 ^ 60 → p ≡ x → q ≡ y → to_z w64 (of_z w64 (to_z w64 (of_z w64 p) +ℤ to_z w64 (of_z w64 q))) ≡ x +ℤ y
-sum_read p q h k e f = rw (← e, ← f) (omega (arith, ints))
-
-pub difference_read : (p q : ℤ) {x y : ℤ} → nat_abs p ≤ 2 ^ 60 → nat_abs q ≤ 2 ^ 60 → p ≡ x → q ≡ y → to_z w64 (of_z w64 (to_z w64 (of_z w64 p) -ℤ to_z w64 (of_z w64 q))) ≡ x -ℤ y
-difference_read p q h k e f = rw (← e, ← f) (omega (arith, ints))
-
--- what is on scale is a disc, and what is off scale is none, refused by 1
-abbrev pub by_1 : Outcome Ball → Outcome Ball
-by_1 (known b) = known b
-by_1 (refused k) = refused 1
-
-pub made_is : {o : Outcome Ball} {x x' y y' z : ℤ} {n : ℕ} → o ≡ scaled (ball x y n) → x ≡ x' → y ≡ y' → z ≡ pos n → by_1 o ≡ made x' y' z
-unfolding ranged
-made_is {x = x} {y = y} {n = n} e p q r = rw (e, ← p, ← q, r) (go (in_range (ball x y n)))
-  where
-    go : (t : Bool) → by_1 (cond t (known (ball x y n)) (refused 9)) ≡ cond t (known (ball x y n)) (refused 1)
-    go true = refl
-    go false = refl
+  pub imaginary_held : FitsSigned w64 (held (held a.re *ℤ held b.im) +ℤ held (held a.im *ℤ held b.re)) × (held (held (held a.re *ℤ held b.im) +ℤ held (held a.im *ℤ held b.re)) ≡ imaginary_part (the_view a) (the_view b))
+  imaginary_held =
+      let m = product_most a.re b.im p.0 q.1 in
+      let n = product_most a.im b.re p.1 q.0 in
+      rw ((product_held a.re b.im p.0 q.1).1, (product_held a.im b.re p.1 q.0).1) (omega (arith, ints), omega (arith, ints))

@@ -5,9 +5,5 @@
 #![tactic(auto)]
 
 mod disc;
-mod plain;
-mod refusal;
 
-pub use disc::Disc;
-pub use plain::PlainDisc;
-pub use refusal::{OutOfRange, Refusal};
+pub use disc::{Disc, OutOfRange, PlainDisc};

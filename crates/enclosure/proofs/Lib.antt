@@ -3,3 +3,4 @@ pub mod Rounding
 pub mod Holding
 pub mod Reciprocals
 pub mod Enclosing
+pub mod Keeping

@@ -1,12 +1,12 @@
 -- Steps one after the other may be grouped as one likes.
 -- Assumes nothing.
-use Rattle.std.proofs.Common.{◌≡◌, refl}
-use Rattle.enclosure.specs.Arithmetic.{Outcome, known, refused, then}
+use Rattle.std.proofs.Common.{◌≡◌, Ok, Err, Result, refl}
+use Rattle.enclosure.specs.Arithmetic.{◌>>=◌}
 
-pub then_then : {A B C : Type 0} (o : Outcome A) (f : A → Outcome B) (g : B → Outcome C) → then (then o f) g ≡ then o (λ a. then (f a) g)
-then_then (known a) f g = refl
-then_then (refused k) f g = refl
+pub bind_assoc : {E A B C : Type 0} (r : Result A E) (f : A → Result B E) (g : B → Result C E) → (r >>= f >>= g) ≡ (r >>= λ a. f a >>= g)
+bind_assoc (Ok a) f g = refl
+bind_assoc (Err e) f g = refl
 
-pub then_end : {A : Type 0} (o : Outcome A) → then o known ≡ o
-then_end (known a) = refl
-then_end (refused k) = refl
+pub bind_ok : {E A : Type 0} (r : Result A E) → (r >>= Ok) ≡ r
+bind_ok (Ok a) = refl
+bind_ok (Err e) = refl

@@ -1,29 +1,28 @@
 -- An arithmetic: values to calculate with, by operations that may be refused, and the laws that tie them to exact numbers.
 -- Assumes nothing.
-use Rattle.std.specs.Prelude.{◌≡◌, ℕ, Bool, true}
+use Rattle.std.specs.Prelude.{◌≡◌, Bool, true, Ok, Err, Result}
 use Rattle.exact.specs.Ring.{Ops}
+use Rattle.enclosure.specs.declared.refusal.Refusal.{Refusal}
 
--- an answer, or a refusal by the number of its cause
-pub data Outcome (A : Type 0) : Type 0 where
-  known : A → Outcome A
-  refused : ℕ → Outcome A
-
--- the next step, unless this one was refused
-abbrev pub then : {A B : Type 0} → Outcome A → (A → Outcome B) → Outcome B
-then (known a) f = f a
-then (refused k) f = refused k
+-- the next step, unless this one was refused: what `?` is in code; steps stand one to a line after `do`
+infixl 10 ◌>>=◌
+abbrev pub ◌>>=◌ : {E A B : Type 0} → Result A E → (A → Result B E) → Result B E
+Ok a >>= f = f a
+Err e >>= f = Err e
 
 pub record Arithmetic (A : Type 0) : Type 0 where
   pub unit : A
-  pub plus : A → A → Outcome A
-  pub minus : A → A → Outcome A
-  pub times : A → A → Outcome A
-  pub reciprocal : A → Outcome A
+  pub plus : A → A → Result A Refusal
+  pub minus : A → A → Result A Refusal
+  pub times : A → A → Result A Refusal
+  pub reciprocal : A → Result A Refusal
   pub touches : A → A → Bool
 
 -- A / B is A × (reciprocal of B)
-abbrev pub quotient : {A : Type 0} → Arithmetic A → A → A → Outcome A
-quotient R a b = then (R.reciprocal b) λ i. R.times a i
+abbrev pub quotient : {A : Type 0} → Arithmetic A → A → A → Result A Refusal
+quotient R a b = do
+  i ← R.reciprocal b
+  R.times a i
 
 -- ---- the laws: with exact numbers in a field O, where a ∋ x says that the value a holds the number x
 
@@ -40,10 +39,10 @@ module _ {A : Type 0} (R : Arithmetic A) (O : Ops) (inv : O.C → O.C) (◌∋�
     pub same_held : (a : A) (x y : C) → x ≈ y → a ∋ x → a ∋ y
     -- the results of members are members of the result
     pub unit_held : R.unit ∋ 𝟙
-    pub sum_held : (a b c : A) (x y : C) → a ∋ x → b ∋ y → R.plus a b ≡ known c → c ∋ x + y
-    pub difference_held : (a b c : A) (x y : C) → a ∋ x → b ∋ y → R.minus a b ≡ known c → c ∋ x + neg y
-    pub product_held : (a b c : A) (x y : C) → a ∋ x → b ∋ y → R.times a b ≡ known c → c ∋ x * y
+    pub sum_held : (a b c : A) (x y : C) → a ∋ x → b ∋ y → R.plus a b ≡ Ok c → c ∋ x + y
+    pub difference_held : (a b c : A) (x y : C) → a ∋ x → b ∋ y → R.minus a b ≡ Ok c → c ∋ x + neg y
+    pub product_held : (a b c : A) (x y : C) → a ∋ x → b ∋ y → R.times a b ≡ Ok c → c ∋ x * y
     -- and an operand whose reciprocal is accepted does not hold zero
-    pub inverse_held : (a c : A) (x : C) → a ∋ x → R.reciprocal a ≡ known c → (¬ (x ≈ 𝟘)) × (c ∋ inv x)
+    pub inverse_held : (a c : A) (x : C) → a ∋ x → R.reciprocal a ≡ Ok c → (¬ (x ≈ 𝟘)) × (c ∋ inv x)
     -- values with a common member touch
     pub common_touch : (a b : A) (x : C) → a ∋ x → b ∋ x → R.touches a b ≡ true

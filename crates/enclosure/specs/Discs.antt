@@ -1,9 +1,11 @@
 -- Discs: what each operation answers, and which exact numbers a disc holds.
 -- Assumes nothing.
-use Rattle.std.specs.Prelude.{ℕ, zero, suc, ◌+◌, ◌-◌, ◌*◌, ◌/◌, ◌%◌, ◌^◌, ◌≤◌, min, Bool, cond, ◌&&◌, ℤ, pos, negsuc, ◌+ℤ◌, ◌-ℤ◌, ◌*ℤ◌, neg_ℤ, nat_le, nat_lt, unsigned_abs}
+use Rattle.std.specs.Prelude.{ℕ, zero, suc, ◌+◌, ◌-◌, ◌*◌, ◌/◌, ◌%◌, ◌^◌, ◌≤◌, min, Bool, if◌then◌else◌, ◌&&◌, ℤ, pos, negsuc, ◌+ℤ◌, ◌-ℤ◌, ◌*ℤ◌, neg_ℤ, nat_le, nat_lt, unsigned_abs, Ok, Err, Result}
 use Rattle.exact.specs.Numbers.{Exact, exacts, invert}
 use Rattle.exact.specs.Vectors.{Within}
-use Rattle.enclosure.specs.Arithmetic.{Outcome, known, refused, Arithmetic, Encloses}
+use Rattle.enclosure.specs.Arithmetic.{Arithmetic, Encloses}
+use Rattle.enclosure.specs.declared.refusal.Refusal.{Refusal}
+use Rattle.enclosure.specs.declared.refusal.Refusal.TheVariants.{ZeroDivisor, OffScale}
 
 -- one is U units, and no part or radius is larger than L units
 abbrev pub U : ℕ
@@ -30,18 +32,12 @@ Holds b x = Within (pos U *ℤ x.p -ℤ b.re *ℤ pos x.d) (pos U *ℤ x.q -ℤ 
 abbrev pub in_range : Ball → Bool
 in_range b = nat_le (unsigned_abs b.re) L && (nat_le (unsigned_abs b.im) L && nat_le b.radius L)
 
--- refused by the cause k where one of the numbers is out of range
-unfoldable pub ranged : ℕ → Ball → Outcome Ball
-ranged k b = cond (in_range b) (known b) (refused k)
+-- refused by e where one of the numbers is out of range
+unfoldable pub ranged : {E : Type 0} → E → Ball → Result Ball E
+ranged e b = if in_range b then Ok b else Err e
 
--- a result of an operation that is off scale is refused by 9
-abbrev pub scaled : Ball → Outcome Ball
-scaled b = ranged 9 b
-
--- three plain numbers that are no disc are refused by 1
-abbrev pub made : ℤ → ℤ → ℤ → Outcome Ball
-made x y (pos r) = ranged 1 (ball x y r)
-made x y (negsuc r) = refused 1
+abbrev pub scaled : Ball → Result Ball Refusal
+scaled b = ranged OffScale b
 
 -- ---- rounding
 
@@ -57,7 +53,7 @@ up n e = n / e + min 1 (n % e)
 -- the least n with n² ≥ s: as s counts up, n stays while its square is enough
 unfoldable pub root : ℕ → ℕ
 root zero = zero
-root (suc s) = cond (nat_lt s (root s * root s)) (root s) (suc (root s))
+root (suc s) = if nat_lt s (root s * root s) then root s else suc (root s)
 
 pub record LeastRoot (s n : ℕ) : Type 0 where
   pub enough : s ≤ n * n
@@ -72,10 +68,10 @@ square a = unsigned_abs a.re * unsigned_abs a.re + unsigned_abs a.im * unsigned_
 abbrev pub size : Ball → ℕ
 size a = root (square a)
 
-unfoldable pub sum : Ball → Ball → Outcome Ball
+unfoldable pub sum : Ball → Ball → Result Ball Refusal
 sum a b = scaled (ball (a.re +ℤ b.re) (a.im +ℤ b.im) (a.radius + b.radius))
 
-unfoldable pub difference : Ball → Ball → Outcome Ball
+unfoldable pub difference : Ball → Ball → Result Ball Refusal
 difference a b = scaled (ball (a.re -ℤ b.re) (a.im -ℤ b.im) (a.radius + b.radius))
 
 -- re re' - im im' and re im' + im re'
@@ -89,16 +85,16 @@ imaginary_part a b = a.re *ℤ b.im +ℤ a.im *ℤ b.re
 abbrev pub spread : Ball → Ball → ℕ
 spread a b = size a * b.radius + size b * a.radius + a.radius * b.radius
 
-unfoldable pub product : Ball → Ball → Outcome Ball
+unfoldable pub product : Ball → Ball → Result Ball Refusal
 product a b = scaled (ball (down (real_part a b) U) (down (imaginary_part a b) U) (up (spread a b) U + 2))
 
 -- with e for re² + im² - r²
-unfoldable pub reciprocal_by : ℕ → Ball → Outcome Ball
+unfoldable pub reciprocal_by : ℕ → Ball → Result Ball Refusal
 reciprocal_by e a = scaled (ball (down (a.re *ℤ pos (2 ^ 48)) e) (down (neg_ℤ a.im *ℤ pos (2 ^ 48)) e) (up (a.radius * 2 ^ 48) e + 2))
 
--- refused by 8 where e ≤ 0
-unfoldable pub reciprocal : Ball → Outcome Ball
-reciprocal a = cond (nat_le (square a) (a.radius * a.radius)) (refused 8) (reciprocal_by (square a - a.radius * a.radius) a)
+-- refused where e ≤ 0
+unfoldable pub reciprocal : Ball → Result Ball Refusal
+reciprocal a = if nat_le (square a) (a.radius * a.radius) then Err ZeroDivisor else reciprocal_by (square a - a.radius * a.radius) a
 
 -- (re - re')² + (im - im')² ≤ (r + r')²
 unfoldable pub touches : Ball → Ball → Bool

@@ -1,2 +1,4 @@
+pub mod Refusals
 pub mod Arithmetic
+pub mod Holding
 pub mod Discs

@@ -1,3 +1,9 @@
-//! Discs as an arithmetic that encloses exact numbers: definitions in specs/, and in proofs/ why they
-//! enclose. The crate `disc` holds the code to them and names the laws in its contracts.
+//! Values to calculate with: operations that may be refused, and the laws that tie them to exact
+//! numbers. Discs as such values: definitions in specs/, and in proofs/ why they enclose.
 #![tactic(auto)]
+
+mod enclosure;
+mod refusal;
+
+pub use enclosure::Enclosure;
+pub use refusal::Refusal;

@@ -1,7 +1,8 @@
 -- Formulas and equations, and the order in which they are worked out in an arithmetic.
 -- Assumes nothing.
-use Rattle.std.specs.Prelude.{ℕ, suc, cond, List, [], ◌∷◌, ◌==◌}
-use Rattle.enclosure.specs.Arithmetic.{Outcome, known, then, Arithmetic, quotient}
+use Rattle.std.specs.Prelude.{ℕ, suc, if◌then◌else◌, List, [], ◌∷◌, ◌==◌, Ok, Result}
+use Rattle.enclosure.specs.Arithmetic.{◌>>=◌, Arithmetic, quotient}
+use Rattle.enclosure.specs.declared.refusal.Refusal.{Refusal}
 
 -- a formula: a quantity by its number, one, and sums, differences, products and quotients of formulas
 infixl 80 ◌⊕◌ ◌⊖◌
@@ -29,7 +30,7 @@ number (a ⊘ b) = 0
 
 -- x gets the value v, and the others keep theirs
 abbrev pub keep : {A : Type 0} → Term → A → (ℕ → A) → ℕ → A
-keep x v ρ n = cond (n == number x) v (ρ n)
+keep x v ρ n = if n == number x then v else ρ n
 
 abbrev pub at : {A : Type 0} → (ℕ → A) → Term → A
 at ρ x = ρ (number x)
@@ -48,60 +49,74 @@ pub data Open (A : Type 0) : Type 0 where
 
 module _ {A : Type 0} (R : Arithmetic A) where
   -- each operation after its operands, the left one first
-  abbrev pub all : Open A → Outcome A
-  all (value a) = known a
-  all (sum r s) = then (all r) λ a. then (all s) λ b. R.plus a b
-  all (difference r s) = then (all r) λ a. then (all s) λ b. R.minus a b
-  all (product r s) = then (all r) λ a. then (all s) λ b. R.times a b
+  abbrev pub all : Open A → Result A Refusal
+  all (value a) = Ok a
+  all (sum r s) = do R.plus (← all r) (← all s)
+  all (difference r s) = do R.minus (← all r) (← all s)
+  all (product r s) = do R.times (← all r) (← all s)
 
-  abbrev pub products : Open A → Outcome (Open A)
-  products (value a) = known (value a)
-  products (sum r s) = then (products r) λ x. then (products s) λ y. known (sum x y)
-  products (difference r s) = then (products r) λ x. then (products s) λ y. known (difference x y)
-  products (product r s) = then (all (product r s)) λ a. known (value a)
+  abbrev pub products : Open A → Result (Open A) Refusal
+  products (value a) = Ok (value a)
+  products (sum r s) = do Ok (sum (← products r) (← products s))
+  products (difference r s) = do Ok (difference (← products r) (← products s))
+  products (product r s) = do Ok (value (← all (product r s)))
 
   -- products, then sums
-  abbrev pub finish : Open A → Outcome A
-  finish r = then (products r) all
+  abbrev pub finish : Open A → Result A Refusal
+  finish r = do all (← products r)
 
-  abbrev pub bracket : Open A → Outcome (Open A)
-  bracket r = then (finish r) λ a. known (value a)
+  abbrev pub bracket : Open A → Result (Open A) Refusal
+  bracket r = do Ok (value (← finish r))
 
   -- a sum stood in brackets where it is subtracted, added or multiplied ..
-  abbrev pub addend : Open A → Outcome (Open A)
-  addend (value a) = known (value a)
+  abbrev pub addend : Open A → Result (Open A) Refusal
+  addend (value a) = Ok (value a)
   addend (sum r s) = bracket (sum r s)
   addend (difference r s) = bracket (difference r s)
-  addend (product r s) = known (product r s)
+  addend (product r s) = Ok (product r s)
 
   -- .. and a product where something is multiplied by it
-  abbrev pub factor : Open A → Outcome (Open A)
-  factor (value a) = known (value a)
+  abbrev pub factor : Open A → Result (Open A) Refusal
+  factor (value a) = Ok (value a)
   factor (sum r s) = bracket (sum r s)
   factor (difference r s) = bracket (difference r s)
   factor (product r s) = bracket (product r s)
 
   -- the brackets of a formula, from left to right; a quotient a / b is worked out with them, a before b
-  abbrev pub brackets : Term → (ℕ → A) → Outcome (Open A)
-  brackets (the n) ρ = known (value (ρ n))
-  brackets one ρ = known (value R.unit)
-  brackets (a ⊕ b) ρ = then (brackets a ρ) λ r. then (brackets b ρ) λ s. then (addend s) λ t. known (sum r t)
-  brackets (a ⊖ b) ρ = then (brackets a ρ) λ r. then (brackets b ρ) λ s. then (addend s) λ t. known (difference r t)
-  brackets (a ⊗ b) ρ = then (brackets a ρ) λ r. then (addend r) λ u. then (brackets b ρ) λ s. then (factor s) λ t. known (product u t)
-  brackets (a ⊘ b) ρ = then (brackets a ρ) λ r. then (finish r) λ x. then (brackets b ρ) λ s. then (finish s) λ y. then (quotient R x y) λ q. known (value q)
+  abbrev pub brackets : Term → (ℕ → A) → Result (Open A) Refusal
+  brackets (the n) ρ = Ok (value (ρ n))
+  brackets one ρ = Ok (value R.unit)
+  brackets (a ⊕ b) ρ = do
+    r ← brackets a ρ
+    s ← brackets b ρ
+    Ok (sum r (← addend s))
+  brackets (a ⊖ b) ρ = do
+    r ← brackets a ρ
+    s ← brackets b ρ
+    Ok (difference r (← addend s))
+  brackets (a ⊗ b) ρ = do
+    r ← addend (← brackets a ρ)
+    s ← factor (← brackets b ρ)
+    Ok (product r s)
+  brackets (a ⊘ b) ρ = do
+    x ← finish (← brackets a ρ)
+    y ← finish (← brackets b ρ)
+    Ok (value (← quotient R x y))
 
-  abbrev pub work : Term → (ℕ → A) → Outcome A
-  work t ρ = then (brackets t ρ) finish
+  abbrev pub work : Term → (ℕ → A) → Result A Refusal
+  work t ρ = do finish (← brackets t ρ)
 
   -- the formula of listed values: the 1, the 2, ..
-  abbrev pub work_of : Term → A → List A → Outcome A
+  abbrev pub work_of : Term → A → List A → Result A Refusal
   work_of t x xs = work t (in_order 1 x xs)
 
   -- equations in the order written; the first operation that is refused decides
-  abbrev pub run : List Equation → (ℕ → A) → Outcome (ℕ → A)
-  run [] ρ = known ρ
-  run ((x ≔ t) ∷ es) ρ = then (work t ρ) λ v. run es (keep x v ρ)
+  abbrev pub run : List Equation → (ℕ → A) → Result (ℕ → A) Refusal
+  run [] ρ = Ok ρ
+  run ((x ≔ t) ∷ es) ρ = do
+    v ← work t ρ
+    run es (keep x v ρ)
 
   -- and an answer read from their quantities
-  abbrev pub worked : {B : Type 0} → List Equation → (ℕ → A) → ((ℕ → A) → B) → Outcome B
-  worked es ρ read = then (run es ρ) λ ρ'. known (read ρ')
+  abbrev pub worked : {B : Type 0} → List Equation → (ℕ → A) → ((ℕ → A) → B) → Result B Refusal
+  worked es ρ read = do Ok (read (← run es ρ))

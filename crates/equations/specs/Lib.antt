@@ -1,9 +1,2 @@
 pub mod Formula
 pub mod Exactly
-pub mod Stages
-pub mod OnePort
-pub mod OnePortTruth
-pub mod TwoPort
-pub mod TwoPortTruth
-pub mod Exchange
-pub mod Scope

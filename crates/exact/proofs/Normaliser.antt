@@ -1,10 +1,8 @@
 -- A normaliser for polynomial expressions, and the proof that it keeps their value in every commutative ring.
 -- A normal form is `con c`, or `node p q`, which is p(x₁, x₂, ..) + x₀ q(x₀, x₁, ..).
 -- Assumes nothing.
-use mathlib.Core.Path.{◌≡◌, subst}
-use Prim.Native.Nat.{ℕ, zero, suc}
-use lib.IntN as I
-use lib.IntN.{ℤ, pos, negsuc, suc_ℤ, pred_ℤ, neg_ℤ, ◌+ℤ◌, ◌*ℤ◌}
+use Rattle.std.proofs.Common.{◌≡◌, ℕ, zero, suc, ℤ, pos, negsuc, neg_ℤ, ◌+ℤ◌, ◌*ℤ◌}
+use Rattle.std.proofs.Math.IntN.{suc_ℤ, pred_ℤ, suc-pred, +ℤ_idl, +ℤ_invr, suc_ℤ-+ℤ, pred_ℤ-+ℤ, zero-*ℤ, suc_ℤ-*ℤ, pred_ℤ-*ℤ}
 use Rattle.exact.specs.Ring.{Ring}
 
 -- induction over the whole numbers by one up and one down
@@ -183,12 +181,9 @@ module _ (R : Ring) where
   neg_up x y = uniq (right x (+_comm (neg (x + y)) y) ⨾ symm (+_assoc x y (neg (x + y))) ⨾ +_neg (x + y))
 
   pub zero_diff : {x y : C} → x + neg y ≈ 𝟘 → x ≈ y
-  zero_diff {x} {y} h = symm (drop x (neg y)) ⨾ left (neg (neg y)) h ⨾ symm (left (neg (neg y)) (+_neg y)) ⨾ swap+ y (neg y) (neg (neg y)) ⨾ +_assoc y (neg (neg y)) (neg y) ⨾ right y (+_comm (neg (neg y)) (neg y) ⨾ +_neg (neg y)) ⨾ +_zero y
+  zero_diff {x} {y} h = symm (swap+ x (neg y) y ⨾ drop x y) ⨾ left y h ⨾ zero+ y
 
   -- ---- the whole numbers in the ring
-
-  eqφ : {a b : ℤ} → a ≡ b → φ a ≈ φ b
-  eqφ {a} {b} p = subst (λ z. φ a ≈ φ z) p (rfl (φ a))
 
   φ_suc : (k : ℤ) → φ (suc_ℤ k) ≈ φ k + 𝟙
   φ_suc (pos n) = rfl (nat n + 𝟙)
@@ -196,23 +191,23 @@ module _ (R : Ring) where
   φ_suc (negsuc (suc n)) = symm (neg_up (nat (suc n)) 𝟙)
 
   φ_pred : (k : ℤ) → φ (pred_ℤ k) ≈ φ k + neg 𝟙
-  φ_pred k = symm (drop (φ (pred_ℤ k)) 𝟙) ⨾ left (neg 𝟙) (symm (φ_suc (pred_ℤ k)) ⨾ eqφ (I.suc-pred k))
+  φ_pred k = symm (drop (φ (pred_ℤ k)) 𝟙) ⨾ left (neg 𝟙) (symm (rw suc-pred at (φ_suc (pred_ℤ k))))
 
   φ_add : (m k : ℤ) → φ (m +ℤ k) ≈ φ m + φ k
   φ_add m k = ℤ_step (λ m. φ (m +ℤ k) ≈ φ m + φ k)
-      (eqφ (I.+ℤ_idl k) ⨾ symm (zero+ (φ k)))
-      (λ m h. eqφ (I.suc_ℤ-+ℤ m k) ⨾ φ_suc (m +ℤ k) ⨾ left 𝟙 h ⨾ swap+ (φ m) (φ k) 𝟙 ⨾ left (φ k) (symm (φ_suc m)))
-      (λ m h. eqφ (I.pred_ℤ-+ℤ m k) ⨾ φ_pred (m +ℤ k) ⨾ left (neg 𝟙) h ⨾ swap+ (φ m) (φ k) (neg 𝟙) ⨾ left (φ k) (symm (φ_pred m)))
+      (rw +ℤ_idl (symm (zero+ (φ k))))
+      (λ m h. rw suc_ℤ-+ℤ (φ_suc (m +ℤ k) ⨾ left 𝟙 h ⨾ swap+ (φ m) (φ k) 𝟙 ⨾ left (φ k) (symm (φ_suc m))))
+      (λ m h. rw pred_ℤ-+ℤ (φ_pred (m +ℤ k) ⨾ left (neg 𝟙) h ⨾ swap+ (φ m) (φ k) (neg 𝟙) ⨾ left (φ k) (symm (φ_pred m))))
       m
 
   φ_neg : (k : ℤ) → φ (neg_ℤ k) ≈ neg (φ k)
-  φ_neg k = uniq (symm (φ_add k (neg_ℤ k)) ⨾ eqφ (I.+ℤ_invr k))
+  φ_neg k = uniq (symm (rw +ℤ_invr at (φ_add k (neg_ℤ k))))
 
   φ_mul : (m k : ℤ) → φ (m *ℤ k) ≈ φ m * φ k
   φ_mul m k = ℤ_step (λ m. φ (m *ℤ k) ≈ φ m * φ k)
-      (eqφ (I.zero-*ℤ k) ⨾ symm (zero* (φ k)))
-      (λ m h. eqφ (I.suc_ℤ-*ℤ m k) ⨾ φ_add (m *ℤ k) k ⨾ +_cong h (symm (one* (φ k))) ⨾ symm (distl (φ m) 𝟙 (φ k)) ⨾ *left (φ k) (symm (φ_suc m)))
-      (λ m h. eqφ (I.pred_ℤ-*ℤ m k) ⨾ φ_add (m *ℤ k) (neg_ℤ k) ⨾ +_cong h (φ_neg k ⨾ neg_cong (symm (one* (φ k))) ⨾ symm (neg* 𝟙 (φ k))) ⨾ symm (distl (φ m) (neg 𝟙) (φ k)) ⨾ *left (φ k) (symm (φ_pred m)))
+      (rw zero-*ℤ (symm (zero* (φ k))))
+      (λ m h. rw suc_ℤ-*ℤ (φ_add (m *ℤ k) k ⨾ +_cong h (symm (one* (φ k))) ⨾ symm (distl (φ m) 𝟙 (φ k)) ⨾ *left (φ k) (symm (φ_suc m))))
+      (λ m h. rw pred_ℤ-*ℤ (φ_add (m *ℤ k) (neg_ℤ k) ⨾ +_cong h (φ_neg k ⨾ neg_cong (symm (one* (φ k))) ⨾ symm (neg* 𝟙 (φ k))) ⨾ symm (distl (φ m) (neg 𝟙) (φ k)) ⨾ *left (φ k) (symm (φ_pred m))))
       m
 
   φ_one : φ (pos (suc zero)) ≈ 𝟙
@@ -278,7 +273,7 @@ module _ (R : Ring) where
   -- ---- the theorem: equal normal forms, equal values
 
   pub solve : (ρ : ℕ → C) (a b : E) → norm a ≡ norm b → ⟦◌⟧ a ρ ≈ ⟦◌⟧ b ρ
-  solve ρ a b h = symm (ev_norm a ρ) ⨾ subst (λ n. ev (norm a) ρ ≈ ev n ρ) h (rfl (ev (norm a) ρ)) ⨾ ev_norm b ρ
+  solve ρ a b h = symm (ev_norm a ρ) ⨾ rw h (ev_norm b ρ)
 
   -- values for the unknowns, the first for 0
   infixr 40 ◌◂◌

@@ -1,30 +1,19 @@
 -- The exact numbers are a field.
 -- Assumes nothing.
-use mathlib.Core.Path.{◌≡◌, refl, sym, ◌∙◌, ap}
-use Prim.Native.Nat.{ℕ, zero, suc, ◌*◌, ◌<◌}
-use native.Mathlib.Nat.{suc-mul}
-use native.Mathlib.Omega.{arith}
-use lib.IntN.{ℤ, pos, negsuc, nat_abs, neg_ℤ, neg_ℤ-neg_ℤ, ◌-ℤ◌, ◌*ℤ◌}
+use Rattle.std.proofs.Common.{◌≡◌, ℕ, zero, suc, ◌<◌, ℤ, pos, ◌-ℤ◌, ◌*ℤ◌, refl, sym, ◌∙◌, ap, arith}
+use Rattle.std.proofs.lemmas.Int.{ints}
 use Rattle.exact.specs.Ring.{Laws, Inverts, Ring, Field}
-use Rattle.exact.specs.Numbers.{Exact, exacts, ◌≃◌, whole, nought, add, multiply, negate, norm, invert_by, invert, ExactField}
-use Rattle.exact.proofs.Normaliser.{E, norm as normal, var, 𝟎, 𝟏, ◌⊕◌, ◌⊗◌, ⊝, ◌⊖◌, solve, lin, done, times, ⟦◌⟧, zero_diff}
+use Rattle.exact.specs.Numbers.{Exact, exacts, ◌≃◌, whole, add, multiply, norm, invert_by, invert, ExactField}
+use Rattle.exact.proofs.Normaliser.{E, norm as normal, var, 𝟎, 𝟏, ◌⊕◌, ◌⊗◌, ⊝, ◌⊖◌, solve, lin, done, times, ⟦◌⟧}
 use Rattle.exact.proofs.Whole.{ℤR, ◌◃◌, end}
 use Rattle.exact.proofs.Order.{norm_is, norm_zero}
 
 -- ---- a positive factor is cancelled
 
-no_zero : (n k : ℕ) → suc n * suc k ≡ zero → ⊥
-no_zero n k h = omega (arith, suc-mul n (suc k))
-
-zero_factor : (z : ℤ) (k : ℕ) → z *ℤ pos (suc k) ≡ pos zero → z ≡ pos zero
-zero_factor (pos zero) k h = refl
-zero_factor (pos (suc n)) k h = absurd (no_zero n k (ap nat_abs h))
-zero_factor (negsuc n) k h = absurd (no_zero n k (ap nat_abs (sym (neg_ℤ-neg_ℤ (pos (suc n * suc k))) ∙ ap neg_ℤ h)))
-
 pub cancel : (x y : ℤ) (d : ℕ) → zero < d → x *ℤ pos d ≡ y *ℤ pos d → x ≡ y
-cancel x y zero lt h = absurd (omega arith)
-cancel x y (suc k) lt h = zero_diff ℤR (zero_factor (x -ℤ y) k
-    (lin ℤR (x ◃ y ◃ pos (suc k) ◃ end) (times 𝟏 (var 0 ⊗ var 2) (var 1 ⊗ var 2) done) (h, tt) ((var 0 ⊖ var 1) ⊗ var 2) 𝟎 refl))
+cancel x y d lt h =
+    let z : (x -ℤ y) *ℤ pos d ≡ pos zero = lin ℤR (x ◃ y ◃ pos d ◃ end) (times 𝟏 (var 0 ⊗ var 2) (var 1 ⊗ var 2) done) (h, tt) ((var 0 ⊖ var 1) ⊗ var 2) 𝟎 refl in
+    grind (arith, ints)
 
 -- ---- the operations on expressions, for three unknown numbers
 
@@ -60,25 +49,20 @@ Z = record { p = var 6; q = var 7; d = var 8 }
 abbrev U : Quoted
 U = record { p = var 9; q = var 10; d = var 11 }
 
-abbrev env : Exact → Exact → Exact → ℕ → ℤ
-env x y z = x.p ◃ x.q ◃ pos x.d ◃ y.p ◃ y.q ◃ pos y.d ◃ z.p ◃ z.q ◃ pos z.d ◃ end
+abbrev env : Exact → Exact → Exact → Exact → ℕ → ℤ
+env x y z u = x.p ◃ x.q ◃ pos x.d ◃ y.p ◃ y.q ◃ pos y.d ◃ z.p ◃ z.q ◃ pos z.d ◃ u.p ◃ u.q ◃ pos u.d ◃ end
 
 -- a law that holds as polynomials
 law : (x y z : Exact) (l r : Quoted) → normal (l.p ⊗ r.d) ≡ normal (r.p ⊗ l.d) → normal (l.q ⊗ r.d) ≡ normal (r.q ⊗ l.d)
-    → (⟦◌⟧ ℤR (l.p ⊗ r.d) (env x y z) ≡ ⟦◌⟧ ℤR (r.p ⊗ l.d) (env x y z)) × (⟦◌⟧ ℤR (l.q ⊗ r.d) (env x y z) ≡ ⟦◌⟧ ℤR (r.q ⊗ l.d) (env x y z))
-law x y z l r h k = (solve ℤR (env x y z) (l.p ⊗ r.d) (r.p ⊗ l.d) h, solve ℤR (env x y z) (l.q ⊗ r.d) (r.q ⊗ l.d) k)
+    → (⟦◌⟧ ℤR (l.p ⊗ r.d) (env x y z x) ≡ ⟦◌⟧ ℤR (r.p ⊗ l.d) (env x y z x)) × (⟦◌⟧ ℤR (l.q ⊗ r.d) (env x y z x) ≡ ⟦◌⟧ ℤR (r.q ⊗ l.d) (env x y z x))
+law x y z l r h k = (solve ℤR (env x y z x) (l.p ⊗ r.d) (r.p ⊗ l.d) h, solve ℤR (env x y z x) (l.q ⊗ r.d) (r.q ⊗ l.d) k)
 
 same : {x y : Exact} → (x.p *ℤ pos y.d ≡ y.p *ℤ pos x.d) × (x.q *ℤ pos y.d ≡ y.q *ℤ pos x.d) → x ≃ y
 same h = record { real = h.0; imag = h.1 }
 
 -- ---- the equality
 
-q_refl : (x : Exact) → x ≃ x
-q_refl x = record { real = refl; imag = refl }
-
-q_sym : {x y : Exact} → x ≃ y → y ≃ x
-q_sym h = record { real = sym h.real; imag = sym h.imag }
-
+-- a/i = c/k where both are b/j
 chain : (a b c : ℤ) (i j k : ℕ) → zero < j → a *ℤ pos j ≡ b *ℤ pos i → b *ℤ pos k ≡ c *ℤ pos j → a *ℤ pos k ≡ c *ℤ pos i
 chain a b c i j k lt h g = cancel (a *ℤ pos k) (c *ℤ pos i) j lt
     (lin ℤR (a ◃ b ◃ c ◃ pos i ◃ pos j ◃ pos k ◃ end)
@@ -93,48 +77,39 @@ q_trans {x} {y} {z} h g = record {
 
 -- ---- congruences
 
-abbrev env4 : Exact → Exact → Exact → Exact → ℕ → ℤ
-env4 x y z u = x.p ◃ x.q ◃ pos x.d ◃ y.p ◃ y.q ◃ pos y.d ◃ z.p ◃ z.q ◃ pos z.d ◃ u.p ◃ u.q ◃ pos u.d ◃ end
-
 -- x = y and z = u, as X = Y and Z = U
 add_cong : {x y z u : Exact} → x ≃ y → z ≃ u → add x z ≃ add y u
 add_cong {x} {y} {z} {u} h g = record {
-  real = lin ℤR (env4 x y z u)
+  real = lin ℤR (env x y z u)
       (times (Z.d ⊗ U.d) (X.p ⊗ Y.d) (Y.p ⊗ X.d) (times (X.d ⊗ Y.d) (Z.p ⊗ U.d) (U.p ⊗ Z.d) done))
       (h.real, (g.real, tt)) ((plus X Z).p ⊗ (plus Y U).d) ((plus Y U).p ⊗ (plus X Z).d) refl;
-  imag = lin ℤR (env4 x y z u)
+  imag = lin ℤR (env x y z u)
       (times (Z.d ⊗ U.d) (X.q ⊗ Y.d) (Y.q ⊗ X.d) (times (X.d ⊗ Y.d) (Z.q ⊗ U.d) (U.q ⊗ Z.d) done))
       (h.imag, (g.imag, tt)) ((plus X Z).q ⊗ (plus Y U).d) ((plus Y U).q ⊗ (plus X Z).d) refl;
 }
 
 mul_cong : {x y z u : Exact} → x ≃ y → z ≃ u → multiply x z ≃ multiply y u
 mul_cong {x} {y} {z} {u} h g = record {
-  real = lin ℤR (env4 x y z u)
+  real = lin ℤR (env x y z u)
       (times (Z.p ⊗ U.d) (X.p ⊗ Y.d) (Y.p ⊗ X.d) (times (Y.p ⊗ X.d) (Z.p ⊗ U.d) (U.p ⊗ Z.d)
       (times (⊝ (Z.q ⊗ U.d)) (X.q ⊗ Y.d) (Y.q ⊗ X.d) (times (⊝ (Y.q ⊗ X.d)) (Z.q ⊗ U.d) (U.q ⊗ Z.d) done))))
       (h.real, (g.real, (h.imag, (g.imag, tt)))) ((mult X Z).p ⊗ (mult Y U).d) ((mult Y U).p ⊗ (mult X Z).d) refl;
-  imag = lin ℤR (env4 x y z u)
+  imag = lin ℤR (env x y z u)
       (times (Z.q ⊗ U.d) (X.p ⊗ Y.d) (Y.p ⊗ X.d) (times (Y.p ⊗ X.d) (Z.q ⊗ U.d) (U.q ⊗ Z.d)
       (times (Z.p ⊗ U.d) (X.q ⊗ Y.d) (Y.q ⊗ X.d) (times (Y.q ⊗ X.d) (Z.p ⊗ U.d) (U.p ⊗ Z.d) done))))
       (h.real, (g.imag, (h.imag, (g.real, tt)))) ((mult X Z).q ⊗ (mult Y U).d) ((mult Y U).q ⊗ (mult X Z).d) refl;
-}
-
-neg_cong : {x y : Exact} → x ≃ y → negate x ≃ negate y
-neg_cong {x} {y} h = record {
-  real = lin ℤR (env x y x) (times (⊝ 𝟏) (X.p ⊗ Y.d) (Y.p ⊗ X.d) done) (h.real, tt) (⊝ X.p ⊗ Y.d) (⊝ Y.p ⊗ X.d) refl;
-  imag = lin ℤR (env x y x) (times (⊝ 𝟏) (X.q ⊗ Y.d) (Y.q ⊗ X.d) done) (h.imag, tt) (⊝ X.q ⊗ Y.d) (⊝ Y.q ⊗ X.d) refl;
 }
 
 -- ---- the ring
 
 pub exact_laws : Laws exacts
 exact_laws = record {
-  rfl = q_refl;
-  symm = λ h. q_sym h;
+  rfl = λ x. record { real = refl; imag = refl };
+  symm = λ h. record { real = sym h.real; imag = sym h.imag };
   trans = λ h g. q_trans h g;
   +_cong = λ h g. add_cong h g;
   *_cong = λ h g. mul_cong h g;
-  neg_cong = λ h. neg_cong h;
+  neg_cong = λ h. record { real = grind (arith, ints, h.real); imag = grind (arith, ints, h.imag) };
   +_assoc = λ x y z. same (law x y z (plus (plus X Y) Z) (plus X (plus Y Z)) refl refl);
   +_comm = λ x y. same (law x y x (plus X Y) (plus Y X) refl refl);
   +_zero = λ x. same (law x x x (plus X nil) X refl refl);
@@ -150,16 +125,13 @@ exact_ring = record { ops = exacts; laws = exact_laws }
 
 -- ---- inverses
 
-null : (p : ℤ) (d : ℕ) → p ≡ pos zero → p *ℤ pos (suc zero) ≡ pos zero *ℤ pos d
-null p d h = lin ℤR (p ◃ pos d ◃ end) (times 𝟏 (var 0) 𝟎 done) (h, tt) (var 0 ⊗ 𝟏) (𝟎 ⊗ var 1) refl
-
 pub exact_inverts : Inverts exacts invert
 exact_inverts x ne = go (norm x) refl
   where
     go : (n : ℕ) → norm x ≡ n → multiply x (invert_by x n) ≃ whole (pos (suc zero))
     go zero e =
         let z = norm_zero x.p x.q e in
-        absurd (ne (record { real = null x.p x.d z.0; imag = null x.q x.d z.1 }))
+        absurd (ne (record { real = omega (arith, ints); imag = omega (arith, ints) }))
     go (suc n) e = record {
       real = lin ℤR (x.p ◃ x.q ◃ pos x.d ◃ pos (suc n) ◃ end)
           (times (var 2) (var 0 ⊗ var 0 ⊕ var 1 ⊗ var 1) (var 3) done) (norm_is x.p x.q ∙ ap pos e, tt)
@@ -171,8 +143,5 @@ exact_inverts x ne = go (norm x) refl
 abbrev pub exact_numbers : Field
 exact_numbers = record { ring = exact_ring; inv = invert; inverts = exact_inverts }
 
-one_is_not_nought : ¬ (whole (pos (suc zero)) ≃ nought)
-one_is_not_nought e = let z : ◌≡◌ {A = ℕ} 1 0 = ap nat_abs e.real in omega arith
-
 pub exact_field : ExactField
-exact_field = (exact_laws, exact_inverts, one_is_not_nought)
+exact_field = (exact_laws, exact_inverts, λ e. omega (arith, ints, e.real))

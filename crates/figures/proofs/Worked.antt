@@ -1,9 +1,7 @@
 -- The figures are right, and the order of work is that of the examples.
-use mathlib.Core.Path.{◌≡◌, refl, sym}
-use Prim.Native.Nat.{◌^◌}
-use native.Mathlib.Omega.{arith}
+use Rattle.std.proofs.Common.{◌≡◌, ◌^◌, refl, sym, arith}
 use Rattle.enclosure.specs.Discs.{root, ranged, product, reciprocal, reciprocal_by, touches}
-use Rattle.enclosure.proofs.Outcomes.{then_then, then_end}
+use Rattle.enclosure.proofs.Outcomes.{bind_assoc, bind_ok}
 use Rattle.enclosure.proofs.Rounding.{root_exact, root_above}
 use Rattle.figures.specs.Order.{Order}
 use Rattle.figures.specs.Table.{AllRight, table}
@@ -25,4 +23,4 @@ unfolding ranged product reciprocal reciprocal_by touches
 figures_right = (root_25, (root_2, (rw root_one, (rw root_1, (refl, (refl, (refl, (refl, (refl, (refl, tt))))))))))
 
 pub order_stands : Order
-order_stands = (λ ρ. simp then_then, λ ρ. simp then_then, λ ρ. simp (then_then, then_end))
+order_stands = (λ ρ. simp bind_assoc, λ ρ. simp bind_assoc, λ ρ. simp (bind_assoc, bind_ok))

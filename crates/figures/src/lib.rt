@@ -3,8 +3,8 @@
 #![tactic(auto)]
 
 ghost use Rattle.std.specs.Prelude.{◌≡◌, length};
-ghost use Rattle.equations.specs.Exchange.{Exchange};
-ghost use Rattle.equations.specs.Scope.{Scope};
+ghost use Rattle.two_port.specs.Exchange.{Exchange};
+ghost use Rattle.figures.specs.Scope.{Scope};
 ghost use Rattle.figures.specs.Order.{Order};
 ghost use Rattle.figures.specs.Table.{AllRight, table};
 

@@ -7,7 +7,7 @@ use one_port::{Sol, ThreeTerms};
 
 /// A number of units, exactly.
 fn real(units: i64) -> Result<Disc, OutOfRange> {
-    Disc::from_plain(PlainDisc {
+    Disc::try_from(PlainDisc {
         re: units,
         im: 0,
         radius: 0,
@@ -15,16 +15,16 @@ fn real(units: i64) -> Result<Disc, OutOfRange> {
 }
 
 /// Short, open and load as an ideal kit lists them.
-fn ideal() -> Result<Sol, OutOfRange> {
-    let short = real(-16_777_216)?;
-    let open = real(16_777_216)?;
-    let load = real(0)?;
-    Ok(Sol { short, open, load })
+fn ideal() -> Result<Sol<Disc>, OutOfRange> {
+    Ok(Sol {
+        short: real(-16_777_216)?,
+        open: real(16_777_216)?,
+        load: real(0)?,
+    })
 }
 
 fn print(rt: &impl Print, name: &str, disc: Disc) -> anyhow::Result<()> {
-    let numbers = disc.to_plain();
-    println!(rt; "{name} {numbers}")?;
+    println!(rt; "{name} {}", PlainDisc::from(disc))?;
     Ok(())
 }
 

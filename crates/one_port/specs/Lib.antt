@@ -1,3 +1,3 @@
-pub mod Meaning
+pub mod Equations
 pub mod Parts
 pub mod Truth

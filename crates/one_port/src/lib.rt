@@ -7,23 +7,21 @@
 mod solve;
 mod transfer;
 
-use disc::Disc;
-
-/// One disc each for the short, the open and the load.
-#[derive(Clone, Copy)]
-pub struct Sol {
-    pub short: Disc,
-    pub open: Disc,
-    pub load: Disc,
+/// One value each for the short, the open and the load.
+#[derive(Clone, Copy, PartialEq, Eq, Debug)]
+pub struct Sol<A> {
+    pub short: A,
+    pub open: A,
+    pub load: A,
 }
 
 /// The error terms of one port.
-#[derive(Clone, Copy)]
-pub struct ThreeTerms {
+#[derive(Clone, Copy, PartialEq, Eq, Debug)]
+pub struct ThreeTerms<A> {
     /// Directivity.
-    pub ed: Disc,
+    pub ed: A,
     /// Source match.
-    pub es: Disc,
+    pub es: A,
     /// Reflection tracking.
-    pub er: Disc,
+    pub er: A,
 }

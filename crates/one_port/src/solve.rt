@@ -1,36 +1,34 @@
 //! From standards to terms.
-ghost use Rattle.std.specs.Prelude.{◌≡◌};
-ghost use Rattle.enclosure.specs.Discs.{discs};
-ghost use Rattle.disc.specs.Meaning.{answer, meaning};
-ghost use Rattle.equations.specs.OnePort.{solved};
-ghost use Rattle.one_port.specs.Meaning.{sol, terms};
-ghost use Rattle.one_port.specs.Parts.{differenced, differences, divided, finished, quotients, solved_in_parts};
+ghost use Rattle.std.specs.Prelude.{◌≡◌, IfOk};
+ghost use Rattle.exact.specs.Numbers.{exacts, invert};
+ghost use Rattle.one_port.specs.Equations.{solved};
+ghost use Rattle.one_port.specs.Parts.{differenced, divided, finished};
 ghost use Rattle.one_port.specs.Truth.{TermsTrue};
 
 use crate::{Sol, ThreeTerms};
-use disc::{Disc, Refusal};
+use enclosure::{Enclosure, Refusal};
 
 /// P3, and the differences of products, listed values and readings from the load's.
 #[derive(Clone, Copy)]
-struct Differences {
-    p3: Disc,
-    a1: Disc,
-    a2: Disc,
-    b1: Disc,
-    b2: Disc,
-    c1: Disc,
-    c2: Disc,
+struct Differences<A> {
+    p3: A,
+    a1: A,
+    a2: A,
+    b1: A,
+    b2: A,
+    c1: A,
+    c2: A,
 }
 
 /// The quotients by V: ES, and z, which is ER - ED ES.
 #[derive(Clone, Copy)]
-struct Quotients {
-    es: Disc,
-    z: Disc,
+struct Quotients<A> {
+    es: A,
+    z: A,
 }
 
-fn difference(listed: Sol, read: Sol) -> Result<Differences, Refusal>
-    ensures { answer differences result ≡ differenced discs (sol listed) (sol read) }
+fn difference<A: Enclosure>(listed: Sol<A>, read: Sol<A>) -> Result<Differences<A>, Refusal>
+    ensures { result ≡ differenced A.arithmetic listed read }
 {
     let p1 = listed.short.times(read.short)?;
     let p2 = listed.open.times(read.open)?;
@@ -52,8 +50,8 @@ fn difference(listed: Sol, read: Sol) -> Result<Differences, Refusal>
     })
 }
 
-fn divide(d: Differences) -> Result<Quotients, Refusal>
-    ensures { answer quotients result ≡ divided discs (differences d) }
+fn divide<A: Enclosure>(d: Differences<A>) -> Result<Quotients<A>, Refusal>
+    ensures { result ≡ divided A.arithmetic d }
 {
     let v = d.a1.times(d.b2)?.minus(d.a2.times(d.b1)?)?;
     let es = d.c1.times(d.b2)?.minus(d.c2.times(d.b1)?)?.over(v)?;
@@ -61,8 +59,13 @@ fn divide(d: Differences) -> Result<Quotients, Refusal>
     Ok(Quotients { es, z })
 }
 
-fn finish(listed: Disc, read: Disc, p3: Disc, q: Quotients) -> Result<ThreeTerms, Refusal>
-    ensures { answer terms result ≡ finished discs (meaning listed) (meaning read) (meaning p3) (quotients q) }
+fn finish<A: Enclosure>(
+    listed: A,
+    read: A,
+    p3: A,
+    q: Quotients<A>,
+) -> Result<ThreeTerms<A>, Refusal>
+    ensures { result ≡ finished A.arithmetic listed read p3 q }
 {
     let x = p3.times(q.es)?;
     let y = listed.times(q.z)?;
@@ -71,20 +74,15 @@ fn finish(listed: Disc, read: Disc, p3: Disc, q: Quotients) -> Result<ThreeTerms
     Ok(ThreeTerms { ed, es: q.es, er })
 }
 
-fn solve_in_parts(listed: Sol, read: Sol) -> Result<ThreeTerms, Refusal>
-    ensures { answer terms result ≡ solved_in_parts discs (sol listed) (sol read) }
-{
-    let d = difference(listed, read)?;
-    let q = divide(d)?;
-    finish(listed.load, read.load, d.p3, q)
-}
-
-impl ThreeTerms {
+impl<A: Enclosure> ThreeTerms<A> {
     /// The terms, from what the standards are listed as and what was read of them.
-    pub fn solve(listed: Sol, read: Sol) -> Result<ThreeTerms, Refusal>
-        ensures value { answer terms result ≡ solved discs (sol listed) (sol read) }
-        ensures truth { TermsTrue listed read result }
+    // the two come from different hands, a kit and a sweep, so they are no struct
+    pub fn solve(listed: Sol<A>, read: Sol<A>) -> Result<ThreeTerms<A>, Refusal>
+        ensures value { result ≡ solved A.arithmetic listed read }
+        ensures truth { IfOk result (TermsTrue A.arithmetic exacts invert A.holds listed read) }
     {
-        solve_in_parts(listed, read)
+        let d = difference(listed, read)?;
+        let q = divide(d)?;
+        finish(listed.load, read.load, d.p3, q)
     }
 }

@@ -1,45 +1,31 @@
 //! From raw to actual, and from actual to raw.
-ghost use Rattle.std.specs.Prelude.{◌≡◌};
-ghost use Rattle.enclosure.specs.Discs.{discs};
-ghost use Rattle.disc.specs.Meaning.{answer, meaning};
-ghost use Rattle.equations.specs.OnePort.{corrected, embedded};
-ghost use Rattle.one_port.specs.Meaning.{terms};
+ghost use Rattle.std.specs.Prelude.{◌≡◌, IfOk};
+ghost use Rattle.exact.specs.Numbers.{exacts, invert};
+ghost use Rattle.one_port.specs.Equations.{corrected, embedded};
 ghost use Rattle.one_port.specs.Truth.{ComesBack, DeviceTrue, RawTrue};
 
 use crate::ThreeTerms;
-use disc::{Disc, Refusal};
+use enclosure::{Enclosure, Refusal};
 
-fn raw_to_actual(t: ThreeTerms, raw: Disc) -> Result<Disc, Refusal>
-    ensures { answer meaning result ≡ corrected discs (terms t) (meaning raw) }
-{
-    let m = raw.minus(t.ed)?;
-    let d = t.er.plus(m.times(t.es)?)?;
-    m.over(d)
-}
-
-fn actual_to_raw(t: ThreeTerms, actual: Disc) -> Result<Disc, Refusal>
-    ensures { answer meaning result ≡ embedded discs (terms t) (meaning actual) }
-{
-    let n = t.er.times(actual)?;
-    let d = Disc::one().minus(t.es.times(actual)?)?;
-    t.ed.plus(n.over(d)?)
-}
-
-impl ThreeTerms {
+impl<A: Enclosure> ThreeTerms<A> {
     /// The device behind a raw value.
-    pub fn correct(self, raw: Disc) -> Result<Disc, Refusal>
-        ensures value { answer meaning result ≡ corrected discs (terms self) (meaning raw) }
-        ensures truth { DeviceTrue self raw result }
-        ensures round_trip { ComesBack self raw result }
+    pub fn correct(self, raw: A) -> Result<A, Refusal>
+        ensures value { result ≡ corrected A.arithmetic self raw }
+        ensures truth { IfOk result (DeviceTrue A.arithmetic exacts invert A.holds self raw) }
+        ensures round_trip { IfOk result (ComesBack A.arithmetic exacts invert A.holds self raw) }
     {
-        raw_to_actual(self, raw)
+        let m = raw.minus(self.ed)?;
+        let d = self.er.plus(m.times(self.es)?)?;
+        m.over(d)
     }
 
     /// The raw value of a device.
-    pub fn embed(self, actual: Disc) -> Result<Disc, Refusal>
-        ensures value { answer meaning result ≡ embedded discs (terms self) (meaning actual) }
-        ensures truth { RawTrue self actual result }
+    pub fn embed(self, actual: A) -> Result<A, Refusal>
+        ensures value { result ≡ embedded A.arithmetic self actual }
+        ensures truth { IfOk result (RawTrue A.arithmetic exacts invert A.holds self actual) }
     {
-        actual_to_raw(self, actual)
+        let n = self.er.times(actual)?;
+        let d = A::one().minus(self.es.times(actual)?)?;
+        self.ed.plus(n.over(d)?)
     }
 }

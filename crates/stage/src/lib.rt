@@ -2,9 +2,9 @@
 #![tactic(auto)]
 
 ghost use Rattle.std.specs.Prelude.{◌≡◌};
-ghost use Rattle.stage.specs.Meaning.{noted, stage_number};
+ghost use Rattle.stage.specs.Stages.{at_stage, stage_number};
 
-use disc::Refusal;
+use enclosure::Refusal;
 use std::error::Error;
 use std::fmt;
 
@@ -33,29 +33,26 @@ pub struct StageRefusal {
 }
 
 impl Stage {
-    /// The number of the stage.
-    pub fn number(self) -> u8
-        ensures { result ≡ stage_number self }
-    {
-        self as u8
-    }
-
     /// An answer of this stage: where it is refused, the stage is noted.
     pub fn note<T>(self, answer: Result<T, Refusal>) -> Result<T, StageRefusal>
-        ensures { result ≡ noted self answer }
+        ensures { result ≡ at_stage self answer }
     {
-        match answer {
-            Ok(value) => Ok(value),
-            Err(cause) => Err(StageRefusal { cause, stage: self }),
-        }
+        answer.map_err(|cause| StageRefusal { cause, stage: self })
+    }
+}
+
+impl From<Stage> for u8 {
+    ghost from_gives = { λ stage number. number ≡ stage_number stage };
+
+    fn from(stage: Stage) -> u8 {
+        // only a cast gives a variant's number
+        stage as u8
     }
 }
 
 impl fmt::Display for StageRefusal {
     fn fmt<W: fmt::Write>(&self, f: &mut fmt::Formatter<W>) -> fmt::Result {
-        let cause = self.cause;
-        let stage = self.stage.number();
-        write!(f, "{cause}, at stage {stage}")
+        write!(f, "{}, at stage {}", self.cause, u8::from(self.stage))
     }
 }
 

@@ -1,7 +1,6 @@
-//! Discs and answers as plain numbers, to compare them with figures.
-use disc::{Disc, OutOfRange, PlainDisc, Refusal};
+//! Discs as plain numbers, to compare them with figures.
+use disc::{Disc, OutOfRange, PlainDisc};
 use one_port::Sol;
-use stage::StageRefusal;
 
 /// One, in units.
 pub(crate) const U: i64 = 16_777_216;
@@ -12,38 +11,23 @@ pub(crate) const L: i64 = 1_073_741_824;
 /// Re, im and radius.
 pub(crate) type Numbers = (i64, i64, i64);
 
-/// An answer by its numbers, or a refusal by its cause and, in a stage, the number of that.
-#[derive(Clone, Copy, PartialEq, Eq, Debug)]
-pub(crate) enum Answer {
-    Is(i64, i64, i64),
-    Refused(u8),
-    RefusedAt(u8, u8),
+/// Short, open and load.
+pub(crate) type Three = [Numbers; 3];
+
+/// What an ideal kit lists.
+pub(crate) const IDEAL: Three = [(-U, 0, 0), (U, 0, 0), (0, 0, 0)];
+
+pub(crate) fn disc((re, im, radius): Numbers) -> Result<Disc, OutOfRange> {
+    Disc::try_from(PlainDisc { re, im, radius })
 }
 
-pub(crate) fn disc(numbers: Numbers) -> Result<Disc, OutOfRange> {
-    let (re, im, radius) = numbers;
-    Disc::from_plain(PlainDisc { re, im, radius })
-}
-
-pub(crate) fn sol(short: Numbers, open: Numbers, load: Numbers) -> Result<Sol, OutOfRange> {
-    let short = disc(short)?;
-    let open = disc(open)?;
-    let load = disc(load)?;
+/// Here and in the tests a function for each struct, for they differ in the names of fields alone.
+pub(crate) fn sol(numbers: Three) -> Result<Sol<Disc>, OutOfRange> {
+    let [short, open, load] = numbers.try_map(disc)?;
     Ok(Sol { short, open, load })
 }
 
-pub(crate) fn shown(disc: Disc) -> Answer {
-    let plain = disc.to_plain();
-    Answer::Is(plain.re, plain.im, plain.radius)
-}
-
-pub(crate) fn refused_at(refusal: StageRefusal) -> Answer {
-    Answer::RefusedAt(refusal.cause.number(), refusal.stage.number())
-}
-
-pub(crate) fn told(answer: Result<Disc, Refusal>) -> Answer {
-    match answer {
-        Ok(d) => shown(d),
-        Err(refusal) => Answer::Refused(refusal.number()),
-    }
+pub(crate) fn numbers(disc: Disc) -> Numbers {
+    let plain = PlainDisc::from(disc);
+    (plain.re, plain.im, plain.radius)
 }

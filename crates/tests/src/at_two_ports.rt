@@ -1,14 +1,11 @@
 //! Two ports against figures worked in exact fractions, and the refusals of every stage.
-use crate::answer::Answer::{Is, RefusedAt};
-use crate::answer::{Answer, L, Numbers, U, disc, refused_at, shown, sol};
+use crate::answer::{IDEAL, L, Numbers, Three, U, disc, sol};
 use disc::{Disc, OutOfRange};
-use stage::StageRefusal;
-use std::process::Abort;
+use enclosure::Refusal;
+use enclosure::Refusal::{OffScale, ZeroDivisor};
+use stage::{Stage, StageRefusal};
 use std::test::Fail;
 use two_port::{Direction, Isolation, Readings, SParameters, Standards, TwelveTerms};
-
-/// Short, open and load.
-type Three = [Numbers; 3];
 
 /// 11, 21, 12 and 22.
 type Four = [Numbers; 4];
@@ -28,23 +25,13 @@ const MOST: Numbers = (L, 0, 0);
 
 const LEAST: Numbers = (-L, 0, 0);
 
-fn four(numbers: Four) -> Result<SParameters, OutOfRange> {
-    let [s11, s21, s12, s22] = numbers;
-    let s11 = disc(s11)?;
-    let s21 = disc(s21)?;
-    let s12 = disc(s12)?;
-    let s22 = disc(s22)?;
+fn four(numbers: Four) -> Result<SParameters<Disc>, OutOfRange> {
+    let [s11, s21, s12, s22] = numbers.try_map(disc)?;
     Ok(SParameters { s11, s21, s12, s22 })
 }
 
-fn direction(numbers: Six) -> Result<Direction, OutOfRange> {
-    let [ed, es, er, ex, el, et] = numbers;
-    let ed = disc(ed)?;
-    let es = disc(es)?;
-    let er = disc(er)?;
-    let ex = disc(ex)?;
-    let el = disc(el)?;
-    let et = disc(et)?;
+fn direction(numbers: Six) -> Result<Direction<Disc>, OutOfRange> {
+    let [ed, es, er, ex, el, et] = numbers.try_map(disc)?;
     Ok(Direction {
         ed,
         es,
@@ -55,62 +42,40 @@ fn direction(numbers: Six) -> Result<Direction, OutOfRange> {
     })
 }
 
-fn twelve(forward: Six, reverse: Six) -> Result<TwelveTerms, OutOfRange> {
-    let forward = direction(forward)?;
-    let reverse = direction(reverse)?;
-    Ok(TwelveTerms { forward, reverse })
-}
-
-fn standards(port1: Three, port2: Three, thru: Four) -> Result<Standards, OutOfRange> {
-    let [short, open, load] = port1;
-    let port1 = sol(short, open, load)?;
-    let [short, open, load] = port2;
-    let port2 = sol(short, open, load)?;
-    let thru = four(thru)?;
-    Ok(Standards { port1, port2, thru })
-}
-
-fn reading(isolation: Option<Numbers>) -> Result<Option<Disc>, OutOfRange> {
-    match isolation {
-        Some(numbers) => Ok(Some(disc(numbers)?)),
-        None => Ok(None),
-    }
-}
-
-fn readings(
-    of: Standards,
-    forward: Option<Numbers>,
-    reverse: Option<Numbers>,
-) -> Result<Readings, OutOfRange> {
-    let forward = reading(forward)?;
-    let reverse = reading(reverse)?;
-    Ok(Readings {
-        port1: of.port1,
-        port2: of.port2,
-        thru: of.thru,
-        isolation: Isolation { forward, reverse },
+fn twelve(forward: Six, reverse: Six) -> Result<TwelveTerms<Disc>, OutOfRange> {
+    Ok(TwelveTerms {
+        forward: direction(forward)?,
+        reverse: direction(reverse)?,
     })
 }
 
-fn check_four(rt: &impl Abort, s: SParameters, want: [Answer; 4]) {
-    let [s11, s21, s12, s22] = want;
-    assert_eq!(rt; shown(s.s11), s11);
-    assert_eq!(rt; shown(s.s21), s21);
-    assert_eq!(rt; shown(s.s12), s12);
-    assert_eq!(rt; shown(s.s22), s22);
+fn standards(port1: Three, port2: Three, thru: Four) -> Result<Standards<Disc>, OutOfRange> {
+    Ok(Standards {
+        port1: sol(port1)?,
+        port2: sol(port2)?,
+        thru: four(thru)?,
+    })
 }
 
-fn check_direction(rt: &impl Abort, d: Direction, want: [Answer; 6]) {
-    let [ed, es, er, ex, el, et] = want;
-    assert_eq!(rt; shown(d.ed), ed);
-    assert_eq!(rt; shown(d.es), es);
-    assert_eq!(rt; shown(d.er), er);
-    assert_eq!(rt; shown(d.ex), ex);
-    assert_eq!(rt; shown(d.el), el);
-    assert_eq!(rt; shown(d.et), et);
+/// Solves from what is listed, what was read of it, and the isolation readings.
+fn solve(
+    listed: Standards<Disc>,
+    read: Standards<Disc>,
+    forward: Option<Numbers>,
+    reverse: Option<Numbers>,
+) -> Result<Result<TwelveTerms<Disc>, StageRefusal>, OutOfRange> {
+    let isolation = Isolation {
+        forward: forward.map(disc).transpose()?,
+        reverse: reverse.map(disc).transpose()?,
+    };
+    let read = Readings {
+        port1: read.port1,
+        port2: read.port2,
+        thru: read.thru,
+        isolation,
+    };
+    Ok(TwelveTerms::solve(listed, read))
 }
-
-const IDEAL: Three = [(-U, 0, 0), ONE, ZERO];
 
 const FLUSH: Four = [ZERO, ONE, ONE, ZERO];
 
@@ -118,57 +83,45 @@ const FLUSH: Four = [ZERO, ONE, ONE, ZERO];
 #[test]
 fn ideal_device(rt: HostRuntime) -> Result<(), Fail> {
     let ideal = standards(IDEAL, IDEAL, FLUSH)?;
-    let terms = TwelveTerms::solve(ideal, readings(ideal, None, None)?)?;
-    check_direction(
-        &rt,
-        terms.forward,
-        [
-            Is(0, 0, 5),
-            Is(0, 0, 5),
-            Is(16_777_216, 0, 24),
-            Is(0, 0, 0),
-            Is(0, 0, 13),
-            Is(16_777_216, 0, 17),
-        ],
-    );
-    check_direction(
-        &rt,
-        terms.reverse,
-        [
-            Is(0, 0, 5),
-            Is(0, 0, 5),
-            Is(16_777_216, 0, 24),
-            Is(0, 0, 0),
-            Is(0, 0, 13),
-            Is(16_777_216, 0, 17),
-        ],
-    );
+    let terms = solve(ideal, ideal, None, None)??;
+    let found = direction([
+        (0, 0, 5),
+        (0, 0, 5),
+        (16_777_216, 0, 24),
+        (0, 0, 0),
+        (0, 0, 13),
+        (16_777_216, 0, 17),
+    ])?;
+    assert_eq!(rt; terms.forward, found);
+    let found = direction([
+        (0, 0, 5),
+        (0, 0, 5),
+        (16_777_216, 0, 24),
+        (0, 0, 0),
+        (0, 0, 13),
+        (16_777_216, 0, 17),
+    ])?;
+    assert_eq!(rt; terms.reverse, found);
     let device = four([
         (8_388_608, 0, 0),
         (0, 4_194_304, 0),
         (0, -4_194_304, 0),
         (-2_097_152, 2_097_152, 0),
     ])?;
-    check_four(
-        &rt,
-        terms.correct(device)?,
-        [
-            Is(8_388_608, 0, 40),
-            Is(0, 4_194_304, 18),
-            Is(0, -4_194_304, 20),
-            Is(-2_097_152, 2_097_152, 25),
-        ],
-    );
-    check_four(
-        &rt,
-        terms.embed(device)?,
-        [
-            Is(8_388_608, 0, 35),
-            Is(0, 4_194_304, 14),
-            Is(0, -4_194_304, 14),
-            Is(-2_097_152, 2_097_152, 22),
-        ],
-    );
+    let found = four([
+        (8_388_608, 0, 40),
+        (0, 4_194_304, 18),
+        (0, -4_194_304, 20),
+        (-2_097_152, 2_097_152, 25),
+    ])?;
+    assert_eq!(rt; terms.correct(device), Ok(found));
+    let found = four([
+        (8_388_608, 0, 35),
+        (0, 4_194_304, 14),
+        (0, -4_194_304, 14),
+        (-2_097_152, 2_097_152, 22),
+    ])?;
+    assert_eq!(rt; terms.embed(device), Ok(found));
     Ok(())
 }
 
@@ -225,39 +178,33 @@ fn lossy(
     read_thru: Four,
     forward: Option<Numbers>,
     reverse: Option<Numbers>,
-) -> Result<Result<TwelveTerms, StageRefusal>, OutOfRange> {
+) -> Result<Result<TwelveTerms<Disc>, StageRefusal>, OutOfRange> {
     let listed = standards(PORT1, PORT2, THRU)?;
-    let read = readings(standards(READ1, READ2, read_thru)?, forward, reverse)?;
-    Ok(TwelveTerms::solve(listed, read))
+    let read = standards(READ1, READ2, read_thru)?;
+    solve(listed, read, forward, reverse)
 }
 
 #[test]
 fn lossy_twelve_terms(rt: HostRuntime) -> Result<(), Fail> {
     let terms = lossy(READ_THRU, Some(FORWARD_LEAKAGE), Some(REVERSE_LEAKAGE))??;
-    check_direction(
-        &rt,
-        terms.forward,
-        [
-            Is(838_862, 335_545, 10),
-            Is(1_677_721, -838_862, 17),
-            Is(15_099_493, 1_677_721, 44),
-            Is(16_777, -8_389, 2),
-            Is(-1_258_291, 671_087, 32),
-            Is(14_260_634, -3_355_443, 27),
-        ],
-    );
-    check_direction(
-        &rt,
-        terms.reverse,
-        [
-            Is(-671_088, 503_318, 10),
-            Is(1_342_177, 1_006_633, 16),
-            Is(15_938_353, -838_861, 43),
-            Is(-8_389, 20_972, 2),
-            Is(1_048_577, -629_147, 29),
-            Is(13_421_774, 5_033_163, 27),
-        ],
-    );
+    let found = direction([
+        (838_862, 335_545, 10),
+        (1_677_721, -838_862, 17),
+        (15_099_493, 1_677_721, 44),
+        (16_777, -8_389, 2),
+        (-1_258_291, 671_087, 32),
+        (14_260_634, -3_355_443, 27),
+    ])?;
+    assert_eq!(rt; terms.forward, found);
+    let found = direction([
+        (-671_088, 503_318, 10),
+        (1_342_177, 1_006_633, 16),
+        (15_938_353, -838_861, 43),
+        (-8_389, 20_972, 2),
+        (1_048_577, -629_147, 29),
+        (13_421_774, 5_033_163, 27),
+    ])?;
+    assert_eq!(rt; terms.reverse, found);
     Ok(())
 }
 
@@ -272,16 +219,13 @@ fn lossy_two_port(rt: HostRuntime) -> Result<(), Fail> {
         (1_850_631, 3_286_534, 2),
         (-4_291_318, 2_358_299, 2),
     ])?;
-    check_four(
-        &rt,
-        terms.correct(raw)?,
-        [
-            Is(5_592_403, 4_793_490, 71),
-            Is(8_388_604, -6_291_458, 65),
-            Is(3_355_441, 2_796_200, 35),
-            Is(-4_194_305, 1_864_133, 55),
-        ],
-    );
+    let found = four([
+        (5_592_403, 4_793_490, 71),
+        (8_388_604, -6_291_458, 65),
+        (3_355_441, 2_796_200, 35),
+        (-4_194_305, 1_864_133, 55),
+    ])?;
+    assert_eq!(rt; terms.correct(raw), Ok(found));
     Ok(())
 }
 
@@ -295,26 +239,20 @@ fn lossy_two_port_round_trip(rt: HostRuntime) -> Result<(), Fail> {
         (-4_194_304, 1_864_135, 2),
     ])?;
     let raw = terms.embed(device)?;
-    check_four(
-        &rt,
-        raw,
-        [
-            Is(5_332_903, 5_585_466, 61),
-            Is(6_228_030, -7_512_632, 44),
-            Is(1_850_631, 3_286_534, 22),
-            Is(-4_291_317, 2_358_300, 46),
-        ],
-    );
-    check_four(
-        &rt,
-        terms.correct(raw)?,
-        [
-            Is(5_592_402, 4_793_489, 142),
-            Is(8_388_603, -6_291_459, 122),
-            Is(3_355_441, 2_796_200, 62),
-            Is(-4_194_304, 1_864_135, 109),
-        ],
-    );
+    let found = four([
+        (5_332_903, 5_585_466, 61),
+        (6_228_030, -7_512_632, 44),
+        (1_850_631, 3_286_534, 22),
+        (-4_291_317, 2_358_300, 46),
+    ])?;
+    assert_eq!(rt; raw, found);
+    let found = four([
+        (5_592_402, 4_793_489, 142),
+        (8_388_603, -6_291_459, 122),
+        (3_355_441, 2_796_200, 62),
+        (-4_194_304, 1_864_135, 109),
+    ])?;
+    assert_eq!(rt; terms.correct(raw), Ok(found));
     Ok(())
 }
 
@@ -328,46 +266,37 @@ fn no_isolation(rt: HostRuntime) -> Result<(), Fail> {
         (-825_613, -372_429, 2),
     ];
     let terms = lossy(read_thru, None, None)??;
-    check_direction(
-        &rt,
-        terms.forward,
-        [
-            Is(838_862, 335_545, 10),
-            Is(1_677_721, -838_862, 17),
-            Is(15_099_493, 1_677_721, 44),
-            Is(0, 0, 0),
-            Is(-1_258_291, 671_087, 32),
-            Is(14_260_634, -3_355_444, 25),
-        ],
-    );
-    check_direction(
-        &rt,
-        terms.reverse,
-        [
-            Is(-671_088, 503_318, 10),
-            Is(1_342_177, 1_006_633, 16),
-            Is(15_938_353, -838_861, 43),
-            Is(0, 0, 0),
-            Is(1_048_577, -629_147, 29),
-            Is(13_421_774, 5_033_164, 25),
-        ],
-    );
+    let found = direction([
+        (838_862, 335_545, 10),
+        (1_677_721, -838_862, 17),
+        (15_099_493, 1_677_721, 44),
+        (0, 0, 0),
+        (-1_258_291, 671_087, 32),
+        (14_260_634, -3_355_444, 25),
+    ])?;
+    assert_eq!(rt; terms.forward, found);
+    let found = direction([
+        (-671_088, 503_318, 10),
+        (1_342_177, 1_006_633, 16),
+        (15_938_353, -838_861, 43),
+        (0, 0, 0),
+        (1_048_577, -629_147, 29),
+        (13_421_774, 5_033_164, 25),
+    ])?;
+    assert_eq!(rt; terms.reverse, found);
     let raw = four([
         (5_332_904, 5_585_467, 2),
         (6_211_254, -7_504_242, 2),
         (1_859_020, 3_265_563, 2),
         (-4_291_318, 2_358_299, 2),
     ])?;
-    check_four(
-        &rt,
-        terms.correct(raw)?,
-        [
-            Is(5_592_403, 4_793_490, 71),
-            Is(8_388_605, -6_291_457, 61),
-            Is(3_355_442, 2_796_201, 33),
-            Is(-4_194_305, 1_864_133, 54),
-        ],
-    );
+    let found = four([
+        (5_592_403, 4_793_490, 71),
+        (8_388_605, -6_291_457, 61),
+        (3_355_442, 2_796_201, 33),
+        (-4_194_305, 1_864_133, 54),
+    ])?;
+    assert_eq!(rt; terms.correct(raw), Ok(found));
     Ok(())
 }
 
@@ -381,38 +310,25 @@ fn forward_isolation(rt: HostRuntime) -> Result<(), Fail> {
         (-825_613, -372_429, 2),
     ];
     let terms = lossy(read_thru, Some(FORWARD_LEAKAGE), None)??;
-    check_direction(
-        &rt,
-        terms.forward,
-        [
-            Is(838_862, 335_545, 10),
-            Is(1_677_721, -838_862, 17),
-            Is(15_099_493, 1_677_721, 44),
-            Is(16_777, -8_389, 2),
-            Is(-1_258_291, 671_087, 32),
-            Is(14_260_634, -3_355_443, 27),
-        ],
-    );
-    check_direction(
-        &rt,
-        terms.reverse,
-        [
-            Is(-671_088, 503_318, 10),
-            Is(1_342_177, 1_006_633, 16),
-            Is(15_938_353, -838_861, 43),
-            Is(0, 0, 0),
-            Is(1_048_577, -629_147, 29),
-            Is(13_421_774, 5_033_164, 25),
-        ],
-    );
+    let found = direction([
+        (838_862, 335_545, 10),
+        (1_677_721, -838_862, 17),
+        (15_099_493, 1_677_721, 44),
+        (16_777, -8_389, 2),
+        (-1_258_291, 671_087, 32),
+        (14_260_634, -3_355_443, 27),
+    ])?;
+    assert_eq!(rt; terms.forward, found);
+    let found = direction([
+        (-671_088, 503_318, 10),
+        (1_342_177, 1_006_633, 16),
+        (15_938_353, -838_861, 43),
+        (0, 0, 0),
+        (1_048_577, -629_147, 29),
+        (13_421_774, 5_033_164, 25),
+    ])?;
+    assert_eq!(rt; terms.reverse, found);
     Ok(())
-}
-
-fn solved(listed: Standards, read: Readings) -> Answer {
-    match TwelveTerms::solve(listed, read) {
-        Ok(terms) => shown(terms.forward.ed),
-        Err(refusal) => refused_at(refusal),
-    }
 }
 
 const EQUAL: Three = [ZERO, ZERO, ZERO];
@@ -421,42 +337,52 @@ const LARGE: Three = [MOST, ONE, ZERO];
 
 /// Ports 1 and 2 as listed, ports 1 and 2 as read, and how the solve is refused: the first stage
 /// decides.
-const REFLECTIONS: [(Three, Three, Three, Three, Answer); 5] = [
-    (IDEAL, IDEAL, EQUAL, IDEAL, RefusedAt(8, 1)),
-    (LARGE, IDEAL, LARGE, IDEAL, RefusedAt(9, 1)),
-    (IDEAL, IDEAL, IDEAL, EQUAL, RefusedAt(8, 2)),
-    (IDEAL, LARGE, IDEAL, LARGE, RefusedAt(9, 2)),
-    (IDEAL, LARGE, EQUAL, LARGE, RefusedAt(8, 1)),
+const REFLECTIONS: [(Three, Three, Three, Three, Refusal, Stage); 5] = [
+    (IDEAL, IDEAL, EQUAL, IDEAL, ZeroDivisor, Stage::Port1),
+    (LARGE, IDEAL, LARGE, IDEAL, OffScale, Stage::Port1),
+    (IDEAL, IDEAL, IDEAL, EQUAL, ZeroDivisor, Stage::Port2),
+    (IDEAL, LARGE, IDEAL, LARGE, OffScale, Stage::Port2),
+    (IDEAL, LARGE, EQUAL, LARGE, ZeroDivisor, Stage::Port1),
 ];
 
 #[test]
 fn reflections_are_refused(rt: HostRuntime) -> Result<(), Fail> {
-    for (port1, port2, read1, read2, answer) in REFLECTIONS {
+    for (port1, port2, read1, read2, cause, stage) in REFLECTIONS {
         let listed = standards(port1, port2, FLUSH)?;
-        let read = readings(standards(read1, read2, FLUSH)?, None, None)?;
-        assert_eq!(rt; solved(listed, read), answer);
+        let read = standards(read1, read2, FLUSH)?;
+        let refused = Err(StageRefusal { cause, stage });
+        assert_eq!(rt; solve(listed, read, None, None)?, refused);
     }
     Ok(())
 }
 
 /// The listed thru, its reading and both isolation readings, with ideal shorts, opens and loads.
-const THRUS: [(Four, Four, Option<Numbers>, Option<Numbers>, Answer); 6] = [
+const THRUS: [(Four, Four, Option<Numbers>, Option<Numbers>, Refusal, Stage); 6] = [
     // the divisor of ELF may be zero
-    ([ZERO, ZERO, ONE, ZERO], FLUSH, None, None, RefusedAt(8, 3)),
+    (
+        [ZERO, ZERO, ONE, ZERO],
+        FLUSH,
+        None,
+        None,
+        ZeroDivisor,
+        Stage::ForwardThru,
+    ),
     // T21 is zero
     (
         [QUARTER, ZERO, ONE, HALF],
         FLUSH,
         None,
         None,
-        RefusedAt(8, 3),
+        ZeroDivisor,
+        Stage::ForwardThru,
     ),
     (
         FLUSH,
         [ZERO, MOST, ONE, ZERO],
         Some(LEAST),
         None,
-        RefusedAt(9, 3),
+        OffScale,
+        Stage::ForwardThru,
     ),
     // T12 is zero
     (
@@ -464,39 +390,41 @@ const THRUS: [(Four, Four, Option<Numbers>, Option<Numbers>, Answer); 6] = [
         FLUSH,
         None,
         None,
-        RefusedAt(8, 4),
+        ZeroDivisor,
+        Stage::ReverseThru,
     ),
     (
         FLUSH,
         [ZERO, ONE, MOST, ZERO],
         None,
         Some(LEAST),
-        RefusedAt(9, 4),
+        OffScale,
+        Stage::ReverseThru,
     ),
     (
         FLUSH,
         [ZERO, MOST, MOST, ZERO],
         Some(LEAST),
         Some(LEAST),
-        RefusedAt(9, 3),
+        OffScale,
+        Stage::ForwardThru,
     ),
 ];
 
 #[test]
 fn thrus_are_refused(rt: HostRuntime) -> Result<(), Fail> {
-    for (thru, read_thru, forward, reverse, answer) in THRUS {
+    for (thru, read_thru, forward, reverse, cause, stage) in THRUS {
         let listed = standards(IDEAL, IDEAL, thru)?;
-        let read = readings(standards(IDEAL, IDEAL, read_thru)?, forward, reverse)?;
-        assert_eq!(rt; solved(listed, read), answer);
+        let read = standards(IDEAL, IDEAL, read_thru)?;
+        let refused = Err(StageRefusal { cause, stage });
+        assert_eq!(rt; solve(listed, read, forward, reverse)?, refused);
     }
     Ok(())
 }
 
-fn transferred(answer: Result<SParameters, StageRefusal>) -> Answer {
-    match answer {
-        Ok(s) => shown(s.s11),
-        Err(refusal) => refused_at(refusal),
-    }
+/// A refusal of either transfer, by its cause and its stage.
+fn refused(cause: Refusal, stage: Stage) -> Result<SParameters<Disc>, StageRefusal> {
+    Err(StageRefusal { cause, stage })
 }
 
 const PERFECT: Six = [ZERO, ZERO, ONE, ZERO, ZERO, ONE];
@@ -504,10 +432,13 @@ const PERFECT: Six = [ZERO, ZERO, ONE, ZERO, ZERO, ONE];
 #[test]
 fn corrections_are_refused(rt: HostRuntime) -> Result<(), Fail> {
     let deaf = twelve(PERFECT, [ZERO, ZERO, ZERO, ZERO, ZERO, ONE])?;
-    assert_eq!(rt; transferred(deaf.correct(four(FLUSH)?)), RefusedAt(8, 5));
+    assert_eq!(rt;
+        deaf.correct(four(FLUSH)?),
+        refused(ZeroDivisor, Stage::Correct)
+    );
     let shifted = twelve(PERFECT, [LEAST, ZERO, ONE, ZERO, ZERO, ONE])?;
     let raw = four([ZERO, ZERO, ZERO, (1, 0, 0)])?;
-    assert_eq!(rt; transferred(shifted.correct(raw)), RefusedAt(9, 5));
+    assert_eq!(rt; shifted.correct(raw), refused(OffScale, Stage::Correct));
     Ok(())
 }
 
@@ -516,18 +447,31 @@ fn embeddings_are_refused(rt: HostRuntime) -> Result<(), Fail> {
     let resonant = [ZERO, ONE, ONE, ZERO, ZERO, ONE];
     let forward = twelve(resonant, PERFECT)?;
     assert_eq!(rt;
-        transferred(forward.embed(four([ONE, ZERO, ZERO, ZERO])?)),
-        RefusedAt(8, 6)
+        forward.embed(four([ONE, ZERO, ZERO, ZERO])?),
+        refused(ZeroDivisor, Stage::Embed)
     );
     let reverse = twelve(PERFECT, resonant)?;
     assert_eq!(rt;
-        transferred(reverse.embed(four([ZERO, ZERO, ZERO, ONE])?)),
-        RefusedAt(8, 6)
+        reverse.embed(four([ZERO, ZERO, ZERO, ONE])?),
+        refused(ZeroDivisor, Stage::Embed)
     );
     let large = four([MOST, ZERO, ZERO, (2 * U, 0, 0)])?;
     assert_eq!(rt;
-        transferred(twelve(PERFECT, PERFECT)?.embed(large)),
-        RefusedAt(9, 6)
+        twelve(PERFECT, PERFECT)?.embed(large),
+        refused(OffScale, Stage::Embed)
     );
     Ok(())
+}
+
+#[test]
+fn numbers_of_stages(rt: HostRuntime) {
+    let stages = [
+        Stage::Port1,
+        Stage::Port2,
+        Stage::ForwardThru,
+        Stage::ReverseThru,
+        Stage::Correct,
+        Stage::Embed,
+    ];
+    assert_eq!(rt; stages.map(u8::from), [1, 2, 3, 4, 5, 6]);
 }

@@ -9,3 +9,5 @@ mod at_one_port;
 mod at_two_ports;
 #[cfg(test)]
 mod discs;
+#[cfg(test)]
+mod of_discs;

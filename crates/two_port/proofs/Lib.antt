@@ -1,2 +1,3 @@
-pub mod Directed
-pub mod Keeping
+pub mod Algebra
+pub mod Truths
+pub mod Exchanges

@@ -1,29 +1,31 @@
 -- The formulas that the code works out in functions of their own. No public contract rests on these.
-use Rattle.std.specs.Prelude.{[], ◌∷◌}
-use Rattle.enclosure.specs.Arithmetic.{Outcome, Arithmetic}
+use Rattle.std.specs.Prelude.{[], ◌∷◌, Result}
+use Rattle.enclosure.specs.Arithmetic.{Arithmetic}
+use Rattle.enclosure.specs.declared.refusal.Refusal.{Refusal}
 use Rattle.equations.specs.Formula.{the, one, ◌⊕◌, ◌⊖◌, ◌⊗◌, ◌⊘◌, work_of}
-use Rattle.equations.specs.OnePort.{ThreeTerms}
-use Rattle.equations.specs.TwoPort.{SParameters, TwelveTerms}
+use Rattle.one_port.specs.declared.ThreeTerms.{ThreeTerms}
+use Rattle.two_port.specs.declared.correct.Port.{Port}
+use Rattle.two_port.specs.declared.parameters.SParameters.{SParameters}
 
 module _ {A : Type 0} (R : Arithmetic A) where
-  abbrev pub determinant_of : SParameters A → Outcome A
+  abbrev pub determinant_of : SParameters A → Result A Refusal
   determinant_of s = work_of R (the 1 ⊗ the 2 ⊖ the 3 ⊗ the 4) s.s11 (s.s22 ∷ s.s21 ∷ s.s12 ∷ [])
 
-  abbrev pub loop_of : SParameters A → A → A → A → Outcome A
+  abbrev pub loop_of : SParameters A → A → A → A → Result A Refusal
   loop_of s es el k = work_of R (one ⊖ the 1 ⊗ the 3 ⊖ the 2 ⊗ the 4 ⊕ the 1 ⊗ the 2 ⊗ the 5) es (el ∷ s.s11 ∷ s.s22 ∷ k ∷ [])
 
-  abbrev pub residual_of : ThreeTerms A → A → A → A → Outcome A
+  abbrev pub residual_of : ThreeTerms A → A → A → A → Result A Refusal
   residual_of t m x y = work_of R (the 1 ⊗ (the 2 ⊖ the 4 ⊗ the 3) ⊖ the 5 ⊗ the 3) m (x ∷ y ∷ t.es ∷ t.er ∷ [])
 
-  abbrev pub normalised : A → A → A → Outcome A
+  abbrev pub normalised : A → A → A → Result A Refusal
   normalised m e t = work_of R ((the 1 ⊖ the 2) ⊘ the 3) m (e ∷ t ∷ [])
 
-  abbrev pub divisor_of : TwelveTerms A → A → A → A → A → Outcome A
-  divisor_of t a b c d = work_of R ((one ⊕ the 1 ⊗ the 5) ⊗ (one ⊕ the 2 ⊗ the 6) ⊖ the 3 ⊗ the 4 ⊗ the 7 ⊗ the 8) a
-      (b ∷ c ∷ d ∷ t.forward.es ∷ t.reverse.es ∷ t.forward.el ∷ t.reverse.el ∷ [])
+  abbrev pub divisor_of : Port A → Port A → A → A → Result A Refusal
+  divisor_of p q c d = work_of R ((one ⊕ the 1 ⊗ the 5) ⊗ (one ⊕ the 2 ⊗ the 6) ⊖ the 3 ⊗ the 4 ⊗ the 7 ⊗ the 8) p.reflected
+      (q.reflected ∷ c ∷ d ∷ p.es ∷ q.es ∷ q.el ∷ p.el ∷ [])
 
-  abbrev pub reflection_of : A → A → A → A → A → A → A → Outcome A
-  reflection_of a b es el c d by = work_of R ((the 1 ⊗ (one ⊕ the 2 ⊗ the 3) ⊖ the 4 ⊗ the 5 ⊗ the 6) ⊘ the 7) a (b ∷ es ∷ el ∷ c ∷ d ∷ by ∷ [])
+  abbrev pub reflection_of : A → Port A → A → A → A → Result A Refusal
+  reflection_of a far c d by = work_of R ((the 1 ⊗ (one ⊕ the 2 ⊗ the 3) ⊖ the 4 ⊗ the 5 ⊗ the 6) ⊘ the 7) a (far.reflected ∷ far.es ∷ far.el ∷ c ∷ d ∷ by ∷ [])
 
-  abbrev pub transmission_of : A → A → A → A → A → Outcome A
-  transmission_of c b es el by = work_of R ((the 1 ⊗ (one ⊕ the 2 ⊗ (the 3 ⊖ the 4))) ⊘ the 5) c (b ∷ es ∷ el ∷ by ∷ [])
+  abbrev pub transmission_of : A → Port A → A → Result A Refusal
+  transmission_of c far by = work_of R ((the 1 ⊗ (one ⊕ the 2 ⊗ (the 3 ⊖ the 4))) ⊘ the 5) c (far.reflected ∷ far.es ∷ far.el ∷ by ∷ [])

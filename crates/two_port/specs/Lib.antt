@@ -1,3 +1,4 @@
-pub mod Meaning
+pub mod Equations
+pub mod Exchange
 pub mod Formulas
 pub mod Truth

@@ -1,65 +1,66 @@
 //! Stage 5: from raw to actual.
-ghost use Rattle.std.specs.Prelude.{◌≡◌};
-ghost use Rattle.enclosure.specs.Discs.{discs};
-ghost use Rattle.disc.specs.Meaning.{answer, meaning};
+ghost use Rattle.std.specs.Prelude.{◌≡◌, IfOk};
+ghost use Rattle.exact.specs.Numbers.{exacts, invert};
 ghost use Rattle.equations.specs.Formula.{worked};
-ghost use Rattle.equations.specs.TwoPort.{correct, corrected, device_in, from_raw};
-ghost use Rattle.stage.specs.Meaning.{staged};
+ghost use Rattle.two_port.specs.Equations.{correct, corrected, device_in, from_raw};
 ghost use Rattle.two_port.specs.Formulas.{divisor_of, normalised, reflection_of, transmission_of};
-ghost use Rattle.two_port.specs.Meaning.{parameters, twelve};
 ghost use Rattle.two_port.specs.Truth.{ComesBack, DeviceTrue};
 
 use crate::{SParameters, TwelveTerms};
-use disc::{Disc, Refusal};
+use enclosure::{Enclosure, Refusal};
 use stage::{Stage, StageRefusal};
 
+/// A port as the other sees it: what was read of it, normalised, and its matches, as a source and
+/// as a load.
+#[derive(Clone, Copy)]
+struct Port<A> {
+    reflected: A,
+    es: A,
+    el: A,
+}
+
 /// A raw value, less the term that adds to it and by the one that it is multiplied by: (M - E)/T.
-fn normalise(m: Disc, e: Disc, t: Disc) -> Result<Disc, Refusal>
-    ensures { answer meaning result ≡ normalised discs (meaning m) (meaning e) (meaning t) }
+fn normalise<A: Enclosure>(m: A, e: A, t: A) -> Result<A, Refusal>
+    ensures { result ≡ normalised A.arithmetic m e t }
 {
     m.minus(e)?.over(t)
 }
 
 /// D = (1 + a ESF) (1 + b ESR) - c d ELF ELR
-fn divisor(t: TwelveTerms, a: Disc, b: Disc, c: Disc, d: Disc) -> Result<Disc, Refusal>
-    ensures { answer meaning result ≡ divisor_of discs (twelve t) (meaning a) (meaning b) (meaning c) (meaning d) }
+fn divisor<A: Enclosure>(port1: Port<A>, port2: Port<A>, c: A, d: A) -> Result<A, Refusal>
+    ensures { result ≡ divisor_of A.arithmetic port1 port2 c d }
 {
-    let x = Disc::one().plus(a.times(t.forward.es)?)?;
-    let y = Disc::one().plus(b.times(t.reverse.es)?)?;
+    let x = A::one().plus(port1.reflected.times(port1.es)?)?;
+    let y = A::one().plus(port2.reflected.times(port2.es)?)?;
     let p = x.times(y)?;
-    let q = c.times(d)?.times(t.forward.el)?.times(t.reverse.el)?;
+    let q = c.times(d)?.times(port2.el)?.times(port1.el)?;
     p.minus(q)
 }
 
-/// (a (1 + b ES) - EL c d)/D
-fn reflection(
-    a: Disc,
-    b: Disc,
-    es: Disc,
-    el: Disc,
-    c: Disc,
-    d: Disc,
-    by: Disc,
-) -> Result<Disc, Refusal>
-    ensures { answer meaning result ≡ reflection_of discs (meaning a) (meaning b) (meaning es) (meaning el) (meaning c) (meaning d) (meaning by) }
+/// (a (1 + b ES) - EL c d)/D, where b, ES and EL are of the far port.
+fn reflection<A: Enclosure>(a: A, far: Port<A>, c: A, d: A, by: A) -> Result<A, Refusal>
+    ensures { result ≡ reflection_of A.arithmetic a far c d by }
 {
-    let x = Disc::one().plus(b.times(es)?)?;
+    let x = A::one().plus(far.reflected.times(far.es)?)?;
     let p = a.times(x)?;
-    let q = el.times(c)?.times(d)?;
+    let q = far.el.times(c)?.times(d)?;
     p.minus(q)?.over(by)
 }
 
-/// (c (1 + b (ES - EL)))/D
-fn transmission(c: Disc, b: Disc, es: Disc, el: Disc, by: Disc) -> Result<Disc, Refusal>
-    ensures { answer meaning result ≡ transmission_of discs (meaning c) (meaning b) (meaning es) (meaning el) (meaning by) }
+/// (c (1 + b (ES - EL)))/D, where b, ES and EL are of the far port.
+fn transmission<A: Enclosure>(c: A, far: Port<A>, by: A) -> Result<A, Refusal>
+    ensures { result ≡ transmission_of A.arithmetic c far by }
 {
-    let e = es.minus(el)?;
-    let x = Disc::one().plus(b.times(e)?)?;
+    let e = far.es.minus(far.el)?;
+    let x = A::one().plus(far.reflected.times(e)?)?;
     c.times(x)?.over(by)
 }
 
-fn raw_to_actual(t: TwelveTerms, raw: SParameters) -> Result<SParameters, Refusal>
-    ensures { answer parameters result ≡ worked discs correct (from_raw (twelve t) (parameters raw)) device_in }
+fn raw_to_actual<A: Enclosure>(
+    t: TwelveTerms<A>,
+    raw: SParameters<A>,
+) -> Result<SParameters<A>, Refusal>
+    ensures { result ≡ worked A.arithmetic correct (from_raw t raw) device_in }
 {
     let f = t.forward;
     let r = t.reverse;
@@ -67,22 +68,31 @@ fn raw_to_actual(t: TwelveTerms, raw: SParameters) -> Result<SParameters, Refusa
     let b = normalise(raw.s22, r.ed, r.er)?;
     let c = normalise(raw.s21, f.ex, f.et)?;
     let d = normalise(raw.s12, r.ex, r.et)?;
-    let by = divisor(t, a, b, c, d)?;
-    let s11 = reflection(a, b, r.es, f.el, c, d, by)?;
-    let s21 = transmission(c, b, r.es, f.el, by)?;
-    let s12 = transmission(d, a, f.es, r.el, by)?;
-    let s22 = reflection(b, a, f.es, r.el, c, d, by)?;
+    let port1 = Port {
+        reflected: a,
+        es: f.es,
+        el: r.el,
+    };
+    let port2 = Port {
+        reflected: b,
+        es: r.es,
+        el: f.el,
+    };
+    let by = divisor(port1, port2, c, d)?;
+    let s11 = reflection(a, port2, c, d, by)?;
+    let s21 = transmission(c, port2, by)?;
+    let s12 = transmission(d, port1, by)?;
+    let s22 = reflection(b, port1, c, d, by)?;
     Ok(SParameters { s11, s21, s12, s22 })
 }
 
-impl TwelveTerms {
+impl<A: Enclosure> TwelveTerms<A> {
     /// The device behind raw values.
-    pub fn correct(self, raw: SParameters) -> Result<SParameters, StageRefusal>
-        ensures value { staged parameters result ≡ corrected discs (twelve self) (parameters raw) }
-        ensures truth { DeviceTrue self raw result }
-        ensures round_trip { ComesBack self raw result }
+    pub fn correct(self, raw: SParameters<A>) -> Result<SParameters<A>, StageRefusal>
+        ensures value { result ≡ corrected A.arithmetic self raw }
+        ensures truth { IfOk result (DeviceTrue A.arithmetic exacts invert A.holds self raw) }
+        ensures round_trip { IfOk result (ComesBack A.arithmetic exacts invert A.holds self raw) }
     {
-        let actual = raw_to_actual(self, raw);
-        Stage::Correct.note(actual)
+        Stage::Correct.note(raw_to_actual(self, raw))
     }
 }

@@ -1,27 +1,24 @@
 //! Stage 6: from actual to raw.
-ghost use Rattle.std.specs.Prelude.{◌≡◌};
-ghost use Rattle.enclosure.specs.Discs.{discs};
-ghost use Rattle.disc.specs.Meaning.{answer};
-ghost use Rattle.equations.specs.TwoPort as Model;
-ghost use Rattle.equations.specs.TwoPort.{embedded, exchange, seen_both};
-ghost use Rattle.stage.specs.Meaning.{staged};
-ghost use Rattle.two_port.specs.Meaning.{direction, parameters, seen, twelve};
+ghost use Rattle.std.specs.Prelude.{◌≡◌, IfOk};
+ghost use Rattle.exact.specs.Numbers.{exacts, invert};
+ghost use Rattle.two_port.specs.Equations as Model;
+ghost use Rattle.two_port.specs.Equations.{embedded, seen_both};
 ghost use Rattle.two_port.specs.Truth.{RawTrue};
 
 use crate::{Direction, SParameters, TwelveTerms};
-use disc::{Disc, Refusal};
+use enclosure::{Enclosure, Refusal};
 use stage::{Stage, StageRefusal};
 
 /// What one direction sees of a device.
 #[derive(Clone, Copy)]
-struct Seen {
-    reflected: Disc,
-    transmitted: Disc,
+struct Seen<A> {
+    reflected: A,
+    transmitted: A,
 }
 
 /// What the direction that drives port 1 sees.
-fn see(f: Direction, s: SParameters) -> Result<Seen, Refusal>
-    ensures { answer seen result ≡ Model.seen discs (direction f) (parameters s) }
+fn see<A: Enclosure>(f: Direction<A>, s: SParameters<A>) -> Result<Seen<A>, Refusal>
+    ensures { result ≡ Model.seen A.arithmetic f s }
 {
     let k = s.determinant()?;
     let q = s.loops(f.es, f.el, k)?;
@@ -34,19 +31,14 @@ fn see(f: Direction, s: SParameters) -> Result<Seen, Refusal>
     })
 }
 
-/// The same of port 2, under the exchange.
-fn see_exchanged(r: Direction, s: SParameters) -> Result<Seen, Refusal>
-    ensures { answer seen result ≡ Model.seen discs (direction r) (exchange (parameters s)) }
-{
-    let exchanged = s.exchanged();
-    see(r, exchanged)
-}
-
-fn actual_to_raw(t: TwelveTerms, actual: SParameters) -> Result<SParameters, Refusal>
-    ensures { answer parameters result ≡ seen_both discs (twelve t) (parameters actual) }
+fn actual_to_raw<A: Enclosure>(
+    t: TwelveTerms<A>,
+    actual: SParameters<A>,
+) -> Result<SParameters<A>, Refusal>
+    ensures { result ≡ seen_both A.arithmetic t actual }
 {
     let forward = see(t.forward, actual)?;
-    let reverse = see_exchanged(t.reverse, actual)?;
+    let reverse = see(t.reverse, actual.exchanged())?;
     Ok(SParameters {
         s11: forward.reflected,
         s21: forward.transmitted,
@@ -55,13 +47,12 @@ fn actual_to_raw(t: TwelveTerms, actual: SParameters) -> Result<SParameters, Ref
     })
 }
 
-impl TwelveTerms {
+impl<A: Enclosure> TwelveTerms<A> {
     /// The raw values of a device.
-    pub fn embed(self, actual: SParameters) -> Result<SParameters, StageRefusal>
-        ensures value { staged parameters result ≡ embedded discs (twelve self) (parameters actual) }
-        ensures truth { RawTrue self actual result }
+    pub fn embed(self, actual: SParameters<A>) -> Result<SParameters<A>, StageRefusal>
+        ensures value { result ≡ embedded A.arithmetic self actual }
+        ensures truth { IfOk result (RawTrue A.arithmetic exacts invert A.holds self actual) }
     {
-        let raw = actual_to_raw(self, actual);
-        Stage::Embed.note(raw)
+        Stage::Embed.note(actual_to_raw(self, actual))
     }
 }

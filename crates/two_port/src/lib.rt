@@ -10,56 +10,55 @@ mod parameters;
 mod solve;
 mod thru;
 
-use disc::Disc;
 use one_port::Sol;
 pub use parameters::SParameters;
 
 /// The error terms of one direction.
-#[derive(Clone, Copy)]
-pub struct Direction {
+#[derive(Clone, Copy, PartialEq, Eq, Debug)]
+pub struct Direction<A> {
     /// Directivity.
-    pub ed: Disc,
+    pub ed: A,
     /// Source match.
-    pub es: Disc,
+    pub es: A,
     /// Reflection tracking.
-    pub er: Disc,
+    pub er: A,
     /// Leakage.
-    pub ex: Disc,
+    pub ex: A,
     /// Load match.
-    pub el: Disc,
+    pub el: A,
     /// Transmission tracking.
-    pub et: Disc,
+    pub et: A,
 }
 
 /// The error terms of two ports.
-#[derive(Clone, Copy)]
-pub struct TwelveTerms {
+#[derive(Clone, Copy, PartialEq, Eq, Debug)]
+pub struct TwelveTerms<A> {
     /// Driven at port 1.
-    pub forward: Direction,
+    pub forward: Direction<A>,
     /// Driven at port 2.
-    pub reverse: Direction,
+    pub reverse: Direction<A>,
 }
 
 /// What the standards are listed as.
-#[derive(Clone, Copy)]
-pub struct Standards {
-    pub port1: Sol,
-    pub port2: Sol,
-    pub thru: SParameters,
+#[derive(Clone, Copy, PartialEq, Eq, Debug)]
+pub struct Standards<A> {
+    pub port1: Sol<A>,
+    pub port2: Sol<A>,
+    pub thru: SParameters<A>,
 }
 
 /// The readings of the leakage; one that was not taken is `None`.
-#[derive(Clone, Copy)]
-pub struct Isolation {
-    pub forward: Option<Disc>,
-    pub reverse: Option<Disc>,
+#[derive(Clone, Copy, PartialEq, Eq, Debug)]
+pub struct Isolation<A> {
+    pub forward: Option<A>,
+    pub reverse: Option<A>,
 }
 
 /// What was read of the standards.
-#[derive(Clone, Copy)]
-pub struct Readings {
-    pub port1: Sol,
-    pub port2: Sol,
-    pub thru: SParameters,
-    pub isolation: Isolation,
+#[derive(Clone, Copy, PartialEq, Eq, Debug)]
+pub struct Readings<A> {
+    pub port1: Sol<A>,
+    pub port2: Sol<A>,
+    pub thru: SParameters<A>,
+    pub isolation: Isolation<A>,
 }

@@ -1,26 +1,23 @@
 //! Four parameters.
 ghost use Rattle.std.specs.Prelude.{◌≡◌};
-ghost use Rattle.enclosure.specs.Discs.{discs};
-ghost use Rattle.disc.specs.Meaning.{answer, meaning};
-ghost use Rattle.equations.specs.TwoPort.{exchange};
+ghost use Rattle.two_port.specs.Equations.{exchange};
 ghost use Rattle.two_port.specs.Formulas.{determinant_of, loop_of};
-ghost use Rattle.two_port.specs.Meaning.{parameters};
 
-use disc::{Disc, Refusal};
+use enclosure::{Enclosure, Refusal};
 
 /// The four parameters of a device, or its raw values.
-#[derive(Clone, Copy)]
-pub struct SParameters {
-    pub s11: Disc,
-    pub s21: Disc,
-    pub s12: Disc,
-    pub s22: Disc,
+#[derive(Clone, Copy, PartialEq, Eq, Debug)]
+pub struct SParameters<A> {
+    pub s11: A,
+    pub s21: A,
+    pub s12: A,
+    pub s22: A,
 }
 
-impl SParameters {
+impl<A: Enclosure> SParameters<A> {
     /// The same with the ports exchanged: 11 for 22, and 21 for 12.
-    pub(super) fn exchanged(self) -> SParameters
-        ensures { parameters result ≡ exchange (parameters self) }
+    pub(super) fn exchanged(self) -> SParameters<A>
+        ensures { result ≡ exchange self }
     {
         SParameters {
             s11: self.s22,
@@ -31,8 +28,8 @@ impl SParameters {
     }
 
     /// K, the determinant.
-    pub(super) fn determinant(self) -> Result<Disc, Refusal>
-        ensures { answer meaning result ≡ determinant_of discs (parameters self) }
+    pub(super) fn determinant(self) -> Result<A, Refusal>
+        ensures { result ≡ determinant_of A.arithmetic self }
     {
         let p = self.s11.times(self.s22)?;
         let q = self.s21.times(self.s12)?;
@@ -40,12 +37,12 @@ impl SParameters {
     }
 
     /// The loops between the matches ES and EL: 1 - ES S11 - EL S22 + ES EL K.
-    pub(super) fn loops(self, es: Disc, el: Disc, k: Disc) -> Result<Disc, Refusal>
-        ensures { answer meaning result ≡ loop_of discs (parameters self) (meaning es) (meaning el) (meaning k) }
+    pub(super) fn loops(self, es: A, el: A, k: A) -> Result<A, Refusal>
+        ensures { result ≡ loop_of A.arithmetic self es el k }
     {
         let x = es.times(self.s11)?;
         let y = el.times(self.s22)?;
         let z = es.times(el)?.times(k)?;
-        Disc::one().minus(x)?.minus(y)?.plus(z)
+        A::one().minus(x)?.minus(y)?.plus(z)
     }
 }

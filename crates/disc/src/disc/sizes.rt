@@ -1,24 +1,13 @@
 //! The size of a disc's centre.
-ghost use Rattle.std.specs.Prelude.{◌≡◌, ◌^◌, ◌≤◌};
-ghost use Rattle.enclosure.specs.Discs.{LeastRoot, root, size, square};
-ghost use Rattle.disc.specs.Meaning.{meaning};
+ghost use Rattle.std.specs.Prelude.{◌≡◌, ◌*◌, ◌^◌, ◌≤◌};
+ghost use Rattle.enclosure.specs.Discs.{LeastRoot, size, square};
 
 use super::Disc;
-
-/// The least number whose square is `s` or more.
-fn root_up(s: u64) -> u64
-    requires { s ≤ 2 ^ 61 }
-    ensures value { result ≡ root s }
-    ensures bound { result ≤ 2 ^ 31 }
-{
-    let n = s.isqrt();
-    if n * n < s { n + 1 } else { n }
-}
 
 impl Disc {
     /// The square of the distance of the centre from zero.
     pub(super) fn square(self) -> u64
-        ensures value { result ≡ square (meaning self) }
+        ensures value { result ≡ square self }
         ensures bound { result ≤ 2 ^ 61 }
     {
         let x = self.re.unsigned_abs();
@@ -28,10 +17,24 @@ impl Disc {
 
     /// The least whole number of units that is no less than the distance of the centre from zero.
     pub fn size(self) -> u64
-        ensures value { result ≡ size (meaning self) }
-        ensures least { LeastRoot (square (meaning self)) result }
+        ensures value { result ≡ size self }
+        ensures least { LeastRoot (square self) result }
         ensures bound { result ≤ 2 ^ 31 }
     {
-        root_up(self.square())
+        let s = self.square();
+        let n = s.isqrt();
+        if n * n < s { n + 1 } else { n }
+    }
+
+    /// The size times the radius of `b`; no root is worked out for a radius of zero.
+    pub(super) fn reach(self, b: Disc) -> u64
+        ensures value { result ≡ size self * b.radius }
+        ensures bound { result ≤ 2 ^ 61 }
+    {
+        if b.radius == 0 {
+            0
+        } else {
+            self.size() * b.radius
+        }
     }
 }

@@ -1,5 +1,5 @@
-use mathlib.Core.Path.{refl}
-use Rattle.equations.proofs.Exchanges.{exchange_stands}
+use Rattle.std.proofs.Common.{refl}
+use Rattle.two_port.proofs.Exchanges.{exchange_stands}
 use Rattle.figures.proofs.Worked.{figures_right, order_stands}
 use Rattle.figures.proofs.proved.Goals as goal
 

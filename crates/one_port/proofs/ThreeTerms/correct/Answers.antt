@@ -1,7 +1,15 @@
-use Rattle.one_port.proofs.Keeping.{device_true, comes_back}
+use Rattle.std.proofs.Common.{rules}
+use Rattle.exact.proofs.Numbers.{exact_numbers}
+use Rattle.enclosure.proofs.Keeping.{kept}
+use Rattle.one_port.proofs.Truths.{comes_back, device_true}
 use Rattle.one_port.proofs.ThreeTerms.correct.Goals as goal
 
-pub returns : goal.returns
-returns c =
-    let e = c.raw_to_actual.ensures in
-    record { value = e; truth = device_true c.args.self c.args.raw _ e; round_trip = comes_back c.args.self c.args.raw _ e }
+pub returns-clause-truth : goal.returns-clause-truth
+returns-clause-truth g c =
+    let E = g.A.Enclosure in
+    kept _ _ (search rules) (device_true E.arithmetic exact_numbers E.holds g.met.A.Enclosure.encloses c.args.self c.args.raw)
+
+pub returns-clause-round_trip : goal.returns-clause-round_trip
+returns-clause-round_trip g c =
+    let E = g.A.Enclosure in
+    kept _ _ (search rules) (comes_back E.arithmetic exact_numbers E.holds g.met.A.Enclosure.encloses c.args.self c.args.raw)

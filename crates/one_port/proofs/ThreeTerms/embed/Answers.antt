@@ -1,7 +1,10 @@
-use Rattle.one_port.proofs.Keeping.{raw_true}
+use Rattle.std.proofs.Common.{rules}
+use Rattle.exact.proofs.Numbers.{exact_numbers}
+use Rattle.enclosure.proofs.Keeping.{kept}
+use Rattle.one_port.proofs.Truths.{raw_true}
 use Rattle.one_port.proofs.ThreeTerms.embed.Goals as goal
 
-pub returns : goal.returns
-returns c =
-    let e = c.actual_to_raw.ensures in
-    record { value = e; truth = raw_true c.args.self c.args.actual _ e }
+pub returns-clause-truth : goal.returns-clause-truth
+returns-clause-truth g c =
+    let E = g.A.Enclosure in
+    kept _ _ (search rules) (raw_true E.arithmetic exact_numbers E.holds g.met.A.Enclosure.encloses c.args.self c.args.actual)

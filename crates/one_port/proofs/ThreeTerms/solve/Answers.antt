@@ -1,14 +1,17 @@
-use Rattle.std.proofs.Common.{◌≡◌, sym, ◌∙◌}
-use Rattle.enclosure.specs.Discs.{discs}
-use Rattle.disc.specs.Meaning.{answer}
-use Rattle.equations.specs.OnePort.{solved}
-use Rattle.one_port.specs.Meaning.{sol, terms}
-use Rattle.one_port.proofs.Joining.{in_parts}
-use Rattle.one_port.proofs.Keeping.{terms_true}
+use Rattle.std.proofs.Common.{◌≡◌, ◌∙◌, rules}
+use Rattle.exact.proofs.Numbers.{exact_numbers}
+use Rattle.enclosure.proofs.Keeping.{kept}
+use Rattle.one_port.proofs.Joining.{joined, joined_is}
+use Rattle.one_port.proofs.Truths.{terms_true}
 use Rattle.one_port.proofs.ThreeTerms.solve.Goals as goal
 
-equal : (c : goal.After-solve_in_parts) → answer terms c.solve_in_parts.result ≡ solved discs (sol c.args.listed) (sol c.args.read)
-equal c = c.solve_in_parts.ensures ∙ sym (in_parts discs (sol c.args.listed) (sol c.args.read))
+pub returns-clause-value : goal.returns-clause-value
+returns-clause-value g c =
+    let R = g.A.Enclosure.arithmetic in
+    let e : c.finish.result ≡ joined R c.args.listed c.args.read = search rules in
+    e ∙ joined_is R c.args.listed c.args.read
 
-pub returns : goal.returns
-returns c = record { value = equal c; truth = terms_true c.args.listed c.args.read _ (equal c) }
+pub returns-clause-truth : goal.returns-clause-truth
+returns-clause-truth g c =
+    let E = g.A.Enclosure in
+    kept _ _ (returns-clause-value g c) (terms_true E.arithmetic exact_numbers E.holds g.met.A.Enclosure.encloses c.args.listed c.args.read)

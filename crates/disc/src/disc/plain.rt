@@ -1,0 +1,67 @@
+//! A disc as it lies in lists, rows and slates.
+ghost use Rattle.std.specs.Prelude.{◌≡◌, pos};
+ghost use Rattle.enclosure.specs.Discs.{ball};
+ghost use Rattle.disc.specs.Plain.{made, plain};
+
+use super::Disc;
+use std::error::Error;
+use std::fmt;
+
+/// Three plain numbers of units, which may be a disc or not: `Disc::try_from` says.
+#[derive(Clone, Copy, PartialEq, Eq, Debug)]
+pub struct PlainDisc {
+    pub re: i64,
+    pub im: i64,
+    pub radius: i64,
+}
+
+/// Three plain numbers that are no disc.
+#[derive(Clone, Copy, PartialEq, Eq, Debug)]
+pub struct OutOfRange;
+
+impl TryFrom<PlainDisc> for Disc {
+    type Error = OutOfRange;
+
+    ghost try_from_gives = { λ numbers result. result ≡ made numbers };
+
+    fn try_from(numbers: PlainDisc) -> Result<Disc, OutOfRange> {
+        let radius = u64::try_from(numbers.radius).map_err(|_| OutOfRange)?;
+        Disc::on_scale(numbers.re, numbers.im, radius).map_err(|_| OutOfRange)
+    }
+}
+
+impl From<OutOfRange> for u8 {
+    ghost from_gives = { λ _ number. number ≡ 1 };
+
+    fn from(_: OutOfRange) -> u8 {
+        1
+    }
+}
+
+impl From<Disc> for PlainDisc {
+    ghost from_gives = { λ disc numbers. numbers ≡ plain disc };
+
+    fn from(disc: Disc) -> PlainDisc {
+        PlainDisc {
+            re: disc.re,
+            im: disc.im,
+            // it fits: a conversion would have an error that cannot come
+            radius: disc.radius as i64,
+        }
+    }
+}
+
+/// `re im radius`
+impl fmt::Display for PlainDisc {
+    fn fmt<W: fmt::Write>(&self, f: &mut fmt::Formatter<W>) -> fmt::Result {
+        write!(f, "{} {} {}", self.re, self.im, self.radius)
+    }
+}
+
+impl fmt::Display for OutOfRange {
+    fn fmt<W: fmt::Write>(&self, f: &mut fmt::Formatter<W>) -> fmt::Result {
+        write!(f, "refused by {}: not a disc", u8::from(*self))
+    }
+}
+
+impl Error for OutOfRange {}
