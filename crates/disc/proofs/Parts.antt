@@ -11,10 +11,6 @@ use Rattle.disc.specs.contracts.disc.Disc.{the_view, the_invariant}
 pub same_scaled : {r : Result Ball Refusal} {x x' y y' : ℤ} {n n' : ℕ} → r ≡ scaled (ball x y n) → x ≡ x' → y ≡ y' → n ≡ n' → r ≡ scaled (ball x' y' n')
 same_scaled e p q s = cc
 
-pub div_euclid_is : (z : ℤ) (e : ℕ) → int_div_euclid z (pos e) ≡ down z e
-div_euclid_is (pos a) e = refl
-div_euclid_is (negsuc a) e = refl
-
 -- a number as 64 bits hold it
 abbrev pub held : ℤ → ℤ
 held z = to_z w64 (of_z w64 z)

@@ -20,14 +20,14 @@ pub struct Disc {
 }
 
 impl Model for Disc {
-    ghost use Rattle.std.specs.Prelude.{◌^◌, ◌≤◌, unsigned_abs};
-    ghost use Rattle.enclosure.specs.Discs.{Ball, ball};
+    ghost use Rattle.std.specs.Prelude.{◌≤◌, unsigned_abs};
+    ghost use Rattle.enclosure.specs.Discs.{Ball, L, ball};
 
     ghost Value = { Ball };
 
     ghost view = { λ d. ball d.re d.im d.radius };
 
-    ghost invariant = { λ d. (unsigned_abs d.re ≤ 2 ^ 30) × (unsigned_abs d.im ≤ 2 ^ 30) × (d.radius ≤ 2 ^ 30) };
+    ghost invariant = { λ d. (unsigned_abs d.re ≤ L) × (unsigned_abs d.im ≤ L) × (d.radius ≤ L) };
 
     ghost inverse = { λ b. record { re = b.re; im = b.im; radius = b.radius } };
 }
@@ -40,6 +40,7 @@ const LIMIT: u64 = 1 << 30;
 
 impl Disc {
     /// A result of an operation; refused where it is off scale.
+    #[tactic(auto, unfolding(enclosure::specs::Discs::ranged))]
     fn on_scale(re: i64, im: i64, radius: u64) -> Result<Disc, Refusal>
         ensures { result ≡ scaled (ball re im radius) }
     {

@@ -7,3 +7,4 @@
 mod disc;
 
 pub use disc::{Disc, OutOfRange, PlainDisc};
+pub use enclosure::{Enclosure, Refusal};

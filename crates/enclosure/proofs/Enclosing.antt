@@ -17,7 +17,7 @@ use Rattle.enclosure.proofs.Reciprocals as R
 U_above : zero < U
 U_above = omega arith
 
--- ---- a known answer is not refused, and is the disc that was on scale
+-- ---- an accepted answer is not refused, and is the disc that was on scale
 
 either : (t : Bool) (k : Refusal) (b c : Ball) → cond t (Ok b) (Err k) ≡ Ok c → b ≡ c
 either t k b c e = grind arith

@@ -1,4 +1,4 @@
-pub mod Outcomes
+pub mod Steps
 pub mod Rounding
 pub mod Holding
 pub mod Reciprocals

@@ -6,16 +6,16 @@ ghost use Rattle.enclosure.specs.Holding.{HoldsQuotients};
 
 use crate::refusal::Refusal;
 
-/// A value that holds exact numbers. What an operation answers holds what comes out for any numbers
-/// that its operands hold.
+/// A value that holds exact numbers, to calculate with by operations that may be refused.
 pub trait Enclosure: Copy {
-    /// Whether a value holds a number.
-    ghost holds: { Self → Exact → Type 0 };
+    /// What each operation answers.
+    ghost arithmetic: { Arithmetic Self };
 
+    /// What `zero` answers.
     ghost origin: { Self };
 
-    /// What the operations answer.
-    ghost arithmetic: { Arithmetic Self };
+    /// Which numbers a value holds.
+    ghost holds: { Self → Exact → Type 0 };
 
     /// Exactly zero.
     fn zero() -> Self
@@ -45,11 +45,16 @@ pub trait Enclosure: Copy {
     fn touches(self, b: Self) -> bool
         ensures { result ≡ arithmetic.touches self b };
 
+    // The laws, which each type has to prove; they stand below the operations that they speak of.
+
+    /// What an operation answers holds what comes out for any numbers that its operands hold.
     ghost encloses: { Encloses arithmetic exacts invert holds };
 
+    /// Zero holds the number zero.
     ghost zero_held: { holds origin nought };
 
     /// The quotient: the value times the reciprocal of `b`.
+    #[tactic(auto, using(crate::proofs::Keeping::quotient_kept))]
     final fn over(self, b: Self) -> Result<Self, Refusal>
         ensures value { result ≡ quotient arithmetic self b }
         ensures encloses { HoldsQuotients holds self b result }

@@ -20,7 +20,7 @@ impl From<Refusal> for u8 {
     ghost from_gives = { λ refusal number. number ≡ cause refusal };
 
     fn from(refusal: Refusal) -> u8 {
-        // only a cast gives a variant's number
+        // a match would list the numbers again
         refusal as u8
     }
 }

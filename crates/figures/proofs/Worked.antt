@@ -1,7 +1,7 @@
 -- The figures are right, and the order of work is that of the examples.
 use Rattle.std.proofs.Common.{◌≡◌, ◌^◌, refl, sym, arith}
 use Rattle.enclosure.specs.Discs.{root, ranged, product, reciprocal, reciprocal_by, touches}
-use Rattle.enclosure.proofs.Outcomes.{bind_assoc, bind_ok}
+use Rattle.enclosure.proofs.Steps.{bind_assoc, bind_ok}
 use Rattle.enclosure.proofs.Rounding.{root_exact, root_above}
 use Rattle.figures.specs.Order.{Order}
 use Rattle.figures.specs.Table.{AllRight, table}

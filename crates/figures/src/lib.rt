@@ -9,6 +9,7 @@ ghost use Rattle.figures.specs.Order.{Order};
 ghost use Rattle.figures.specs.Table.{AllRight, table};
 
 /// How many figures the table has. Each is right.
+#[tactic(auto, using(crate::proofs::Worked::figures_right, crate::proofs::Worked::order_stands, two_port::proofs::Exchanges::exchange_stands))]
 pub fn proved() -> usize
     ensures count { result ≡ length table }
     ensures right { AllRight table }

@@ -2,7 +2,7 @@
 use Rattle.std.proofs.Common.{◌≡◌, Result}
 use Rattle.enclosure.specs.Arithmetic.{◌>>=◌, Arithmetic}
 use Rattle.enclosure.specs.declared.refusal.Refusal.{Refusal}
-use Rattle.enclosure.proofs.Outcomes.{bind_assoc}
+use Rattle.enclosure.proofs.Steps.{bind_assoc}
 use Rattle.one_port.specs.Equations.{solved}
 use Rattle.one_port.specs.Parts.{differenced, divided, finished}
 use Rattle.one_port.specs.declared.Sol.{Sol}

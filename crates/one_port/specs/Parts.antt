@@ -1,4 +1,4 @@
--- Solving in the three parts in which the code does it.
+-- Solving in the three parts in which the code does it. No public contract rests on these.
 use Rattle.std.specs.Prelude.{Result}
 use Rattle.enclosure.specs.Arithmetic.{Arithmetic}
 use Rattle.enclosure.specs.declared.refusal.Refusal.{Refusal}

@@ -9,6 +9,7 @@ use crate::{Sol, ThreeTerms};
 use enclosure::{Enclosure, Refusal};
 
 /// P3, and the differences of products, listed values and readings from the load's.
+// under the names that the equations give them, of the short and of the open
 #[derive(Clone, Copy)]
 struct Differences<A> {
     p3: A,
@@ -53,6 +54,7 @@ fn difference<A: Enclosure>(listed: Sol<A>, read: Sol<A>) -> Result<Differences<
 fn divide<A: Enclosure>(d: Differences<A>) -> Result<Quotients<A>, Refusal>
     ensures { result ≡ divided A.arithmetic d }
 {
+    // each line is an equation: a function of the four factors would hide which are meant
     let v = d.a1.times(d.b2)?.minus(d.a2.times(d.b1)?)?;
     let es = d.c1.times(d.b2)?.minus(d.c2.times(d.b1)?)?.over(v)?;
     let z = d.a1.times(d.c2)?.minus(d.a2.times(d.c1)?)?.over(v)?;
@@ -76,7 +78,7 @@ fn finish<A: Enclosure>(
 
 impl<A: Enclosure> ThreeTerms<A> {
     /// The terms, from what the standards are listed as and what was read of them.
-    // the two come from different hands, a kit and a sweep, so they are no struct
+    // each caller would make a struct of the two, and the first line would take it apart
     pub fn solve(listed: Sol<A>, read: Sol<A>) -> Result<ThreeTerms<A>, Refusal>
         ensures value { result ≡ solved A.arithmetic listed read }
         ensures truth { IfOk result (TermsTrue A.arithmetic exacts invert A.holds listed read) }

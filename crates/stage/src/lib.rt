@@ -45,7 +45,7 @@ impl From<Stage> for u8 {
     ghost from_gives = { λ stage number. number ≡ stage_number stage };
 
     fn from(stage: Stage) -> u8 {
-        // only a cast gives a variant's number
+        // a match would list the numbers again
         stage as u8
     }
 }

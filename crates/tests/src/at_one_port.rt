@@ -1,5 +1,5 @@
 //! One port against figures worked in exact fractions, and its refusals.
-use crate::answer::{IDEAL, L, Three, U, disc, sol};
+use crate::plain::{IDEAL, L, Three, U, disc, sol};
 use disc::{Disc, OutOfRange};
 use enclosure::Refusal;
 use enclosure::Refusal::{OffScale, ZeroDivisor};
@@ -30,12 +30,12 @@ fn lossy() -> Result<Result<ThreeTerms<Disc>, Refusal>, OutOfRange> {
 
 #[test]
 fn lossy_terms(rt: HostRuntime) -> Result<(), Fail> {
-    let found = [
+    let want = [
         (838_862, 335_545, 10),
         (1_677_721, -838_861, 17),
         (15_099_494, 1_677_720, 44),
     ];
-    assert_eq!(rt; lossy()?, Ok(three_terms(found)?));
+    assert_eq!(rt; lossy()?, Ok(three_terms(want)?));
     Ok(())
 }
 

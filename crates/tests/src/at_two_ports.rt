@@ -1,5 +1,5 @@
 //! Two ports against figures worked in exact fractions, and the refusals of every stage.
-use crate::answer::{IDEAL, L, Numbers, Three, U, disc, sol};
+use crate::plain::{IDEAL, L, Numbers, Three, U, disc, sol};
 use disc::{Disc, OutOfRange};
 use enclosure::Refusal;
 use enclosure::Refusal::{OffScale, ZeroDivisor};
@@ -61,12 +61,11 @@ fn standards(port1: Three, port2: Three, thru: Four) -> Result<Standards<Disc>, 
 fn solve(
     listed: Standards<Disc>,
     read: Standards<Disc>,
-    forward: Option<Numbers>,
-    reverse: Option<Numbers>,
+    isolation: Isolation<Numbers>,
 ) -> Result<Result<TwelveTerms<Disc>, StageRefusal>, OutOfRange> {
     let isolation = Isolation {
-        forward: forward.map(disc).transpose()?,
-        reverse: reverse.map(disc).transpose()?,
+        forward: isolation.forward.map(disc).transpose()?,
+        reverse: isolation.reverse.map(disc).transpose()?,
     };
     let read = Readings {
         port1: read.port1,
@@ -77,51 +76,55 @@ fn solve(
     Ok(TwelveTerms::solve(listed, read))
 }
 
+const NO_ISOLATION: Isolation<Numbers> = Isolation {
+    forward: None,
+    reverse: None,
+};
+
 const FLUSH: Four = [ZERO, ONE, ONE, ZERO];
 
 /// Identity error boxes and a flush thru: a device comes back as itself.
 #[test]
 fn ideal_device(rt: HostRuntime) -> Result<(), Fail> {
     let ideal = standards(IDEAL, IDEAL, FLUSH)?;
-    let terms = solve(ideal, ideal, None, None)??;
-    let found = direction([
+    let terms = solve(ideal, ideal, NO_ISOLATION)??;
+    let forward = [
         (0, 0, 5),
         (0, 0, 5),
         (16_777_216, 0, 24),
         (0, 0, 0),
         (0, 0, 13),
         (16_777_216, 0, 17),
-    ])?;
-    assert_eq!(rt; terms.forward, found);
-    let found = direction([
+    ];
+    let reverse = [
         (0, 0, 5),
         (0, 0, 5),
         (16_777_216, 0, 24),
         (0, 0, 0),
         (0, 0, 13),
         (16_777_216, 0, 17),
-    ])?;
-    assert_eq!(rt; terms.reverse, found);
+    ];
+    assert_eq!(rt; terms, twelve(forward, reverse)?);
     let device = four([
         (8_388_608, 0, 0),
         (0, 4_194_304, 0),
         (0, -4_194_304, 0),
         (-2_097_152, 2_097_152, 0),
     ])?;
-    let found = four([
+    let want = four([
         (8_388_608, 0, 40),
         (0, 4_194_304, 18),
         (0, -4_194_304, 20),
         (-2_097_152, 2_097_152, 25),
     ])?;
-    assert_eq!(rt; terms.correct(device), Ok(found));
-    let found = four([
+    assert_eq!(rt; terms.correct(device), Ok(want));
+    let want = four([
         (8_388_608, 0, 35),
         (0, 4_194_304, 14),
         (0, -4_194_304, 14),
         (-2_097_152, 2_097_152, 22),
     ])?;
-    assert_eq!(rt; terms.embed(device), Ok(found));
+    assert_eq!(rt; terms.embed(device), Ok(want));
     Ok(())
 }
 
@@ -170,41 +173,40 @@ const READ_THRU: Four = [
     (-825_613, -372_429, 2),
 ];
 
-const FORWARD_LEAKAGE: Numbers = (16_777, -8_389, 2);
-
-const REVERSE_LEAKAGE: Numbers = (-8_389, 20_972, 2);
+const ISOLATION: Isolation<Numbers> = Isolation {
+    forward: Some((16_777, -8_389, 2)),
+    reverse: Some((-8_389, 20_972, 2)),
+};
 
 fn lossy(
     read_thru: Four,
-    forward: Option<Numbers>,
-    reverse: Option<Numbers>,
+    isolation: Isolation<Numbers>,
 ) -> Result<Result<TwelveTerms<Disc>, StageRefusal>, OutOfRange> {
     let listed = standards(PORT1, PORT2, THRU)?;
     let read = standards(READ1, READ2, read_thru)?;
-    solve(listed, read, forward, reverse)
+    solve(listed, read, isolation)
 }
 
 #[test]
 fn lossy_twelve_terms(rt: HostRuntime) -> Result<(), Fail> {
-    let terms = lossy(READ_THRU, Some(FORWARD_LEAKAGE), Some(REVERSE_LEAKAGE))??;
-    let found = direction([
+    let terms = lossy(READ_THRU, ISOLATION)??;
+    let forward = [
         (838_862, 335_545, 10),
         (1_677_721, -838_862, 17),
         (15_099_493, 1_677_721, 44),
         (16_777, -8_389, 2),
         (-1_258_291, 671_087, 32),
         (14_260_634, -3_355_443, 27),
-    ])?;
-    assert_eq!(rt; terms.forward, found);
-    let found = direction([
+    ];
+    let reverse = [
         (-671_088, 503_318, 10),
         (1_342_177, 1_006_633, 16),
         (15_938_353, -838_861, 43),
         (-8_389, 20_972, 2),
         (1_048_577, -629_147, 29),
         (13_421_774, 5_033_163, 27),
-    ])?;
-    assert_eq!(rt; terms.reverse, found);
+    ];
+    assert_eq!(rt; terms, twelve(forward, reverse)?);
     Ok(())
 }
 
@@ -212,26 +214,26 @@ fn lossy_twelve_terms(rt: HostRuntime) -> Result<(), Fail> {
 /// within 2 units.
 #[test]
 fn lossy_two_port(rt: HostRuntime) -> Result<(), Fail> {
-    let terms = lossy(READ_THRU, Some(FORWARD_LEAKAGE), Some(REVERSE_LEAKAGE))??;
+    let terms = lossy(READ_THRU, ISOLATION)??;
     let raw = four([
         (5_332_904, 5_585_467, 2),
         (6_228_031, -7_512_631, 2),
         (1_850_631, 3_286_534, 2),
         (-4_291_318, 2_358_299, 2),
     ])?;
-    let found = four([
+    let want = four([
         (5_592_403, 4_793_490, 71),
         (8_388_604, -6_291_458, 65),
         (3_355_441, 2_796_200, 35),
         (-4_194_305, 1_864_133, 55),
     ])?;
-    assert_eq!(rt; terms.correct(raw), Ok(found));
+    assert_eq!(rt; terms.correct(raw), Ok(want));
     Ok(())
 }
 
 #[test]
 fn lossy_two_port_round_trip(rt: HostRuntime) -> Result<(), Fail> {
-    let terms = lossy(READ_THRU, Some(FORWARD_LEAKAGE), Some(REVERSE_LEAKAGE))??;
+    let terms = lossy(READ_THRU, ISOLATION)??;
     let device = four([
         (5_592_405, 4_793_490, 2),
         (8_388_608, -6_291_456, 2),
@@ -239,20 +241,20 @@ fn lossy_two_port_round_trip(rt: HostRuntime) -> Result<(), Fail> {
         (-4_194_304, 1_864_135, 2),
     ])?;
     let raw = terms.embed(device)?;
-    let found = four([
+    let want = four([
         (5_332_903, 5_585_466, 61),
         (6_228_030, -7_512_632, 44),
         (1_850_631, 3_286_534, 22),
         (-4_291_317, 2_358_300, 46),
     ])?;
-    assert_eq!(rt; raw, found);
-    let found = four([
+    assert_eq!(rt; raw, want);
+    let want = four([
         (5_592_402, 4_793_489, 142),
         (8_388_603, -6_291_459, 122),
         (3_355_441, 2_796_200, 62),
         (-4_194_304, 1_864_135, 109),
     ])?;
-    assert_eq!(rt; terms.correct(raw), Ok(found));
+    assert_eq!(rt; terms.correct(raw), Ok(want));
     Ok(())
 }
 
@@ -265,38 +267,37 @@ fn no_isolation(rt: HostRuntime) -> Result<(), Fail> {
         (14_139_321, -938_139, 2),
         (-825_613, -372_429, 2),
     ];
-    let terms = lossy(read_thru, None, None)??;
-    let found = direction([
+    let terms = lossy(read_thru, NO_ISOLATION)??;
+    let forward = [
         (838_862, 335_545, 10),
         (1_677_721, -838_862, 17),
         (15_099_493, 1_677_721, 44),
         (0, 0, 0),
         (-1_258_291, 671_087, 32),
         (14_260_634, -3_355_444, 25),
-    ])?;
-    assert_eq!(rt; terms.forward, found);
-    let found = direction([
+    ];
+    let reverse = [
         (-671_088, 503_318, 10),
         (1_342_177, 1_006_633, 16),
         (15_938_353, -838_861, 43),
         (0, 0, 0),
         (1_048_577, -629_147, 29),
         (13_421_774, 5_033_164, 25),
-    ])?;
-    assert_eq!(rt; terms.reverse, found);
+    ];
+    assert_eq!(rt; terms, twelve(forward, reverse)?);
     let raw = four([
         (5_332_904, 5_585_467, 2),
         (6_211_254, -7_504_242, 2),
         (1_859_020, 3_265_563, 2),
         (-4_291_318, 2_358_299, 2),
     ])?;
-    let found = four([
+    let want = four([
         (5_592_403, 4_793_490, 71),
         (8_388_605, -6_291_457, 61),
         (3_355_442, 2_796_201, 33),
         (-4_194_305, 1_864_133, 54),
     ])?;
-    assert_eq!(rt; terms.correct(raw), Ok(found));
+    assert_eq!(rt; terms.correct(raw), Ok(want));
     Ok(())
 }
 
@@ -309,26 +310,34 @@ fn forward_isolation(rt: HostRuntime) -> Result<(), Fail> {
         (14_139_321, -938_139, 2),
         (-825_613, -372_429, 2),
     ];
-    let terms = lossy(read_thru, Some(FORWARD_LEAKAGE), None)??;
-    let found = direction([
+    let isolation = Isolation {
+        reverse: None,
+        ..ISOLATION
+    };
+    let terms = lossy(read_thru, isolation)??;
+    let forward = [
         (838_862, 335_545, 10),
         (1_677_721, -838_862, 17),
         (15_099_493, 1_677_721, 44),
         (16_777, -8_389, 2),
         (-1_258_291, 671_087, 32),
         (14_260_634, -3_355_443, 27),
-    ])?;
-    assert_eq!(rt; terms.forward, found);
-    let found = direction([
+    ];
+    let reverse = [
         (-671_088, 503_318, 10),
         (1_342_177, 1_006_633, 16),
         (15_938_353, -838_861, 43),
         (0, 0, 0),
         (1_048_577, -629_147, 29),
         (13_421_774, 5_033_164, 25),
-    ])?;
-    assert_eq!(rt; terms.reverse, found);
+    ];
+    assert_eq!(rt; terms, twelve(forward, reverse)?);
     Ok(())
+}
+
+/// The refusal of a stage by its cause.
+fn refused<T>(cause: Refusal, stage: Stage) -> Result<T, StageRefusal> {
+    Err(StageRefusal { cause, stage })
 }
 
 const EQUAL: Three = [ZERO, ZERO, ZERO];
@@ -350,20 +359,18 @@ fn reflections_are_refused(rt: HostRuntime) -> Result<(), Fail> {
     for (port1, port2, read1, read2, cause, stage) in REFLECTIONS {
         let listed = standards(port1, port2, FLUSH)?;
         let read = standards(read1, read2, FLUSH)?;
-        let refused = Err(StageRefusal { cause, stage });
-        assert_eq!(rt; solve(listed, read, None, None)?, refused);
+        assert_eq!(rt; solve(listed, read, NO_ISOLATION)?, refused(cause, stage));
     }
     Ok(())
 }
 
 /// The listed thru, its reading and both isolation readings, with ideal shorts, opens and loads.
-const THRUS: [(Four, Four, Option<Numbers>, Option<Numbers>, Refusal, Stage); 6] = [
+const THRUS: [(Four, Four, Isolation<Numbers>, Refusal, Stage); 6] = [
     // the divisor of ELF may be zero
     (
         [ZERO, ZERO, ONE, ZERO],
         FLUSH,
-        None,
-        None,
+        NO_ISOLATION,
         ZeroDivisor,
         Stage::ForwardThru,
     ),
@@ -371,16 +378,17 @@ const THRUS: [(Four, Four, Option<Numbers>, Option<Numbers>, Refusal, Stage); 6]
     (
         [QUARTER, ZERO, ONE, HALF],
         FLUSH,
-        None,
-        None,
+        NO_ISOLATION,
         ZeroDivisor,
         Stage::ForwardThru,
     ),
     (
         FLUSH,
         [ZERO, MOST, ONE, ZERO],
-        Some(LEAST),
-        None,
+        Isolation {
+            forward: Some(LEAST),
+            reverse: None,
+        },
         OffScale,
         Stage::ForwardThru,
     ),
@@ -388,24 +396,27 @@ const THRUS: [(Four, Four, Option<Numbers>, Option<Numbers>, Refusal, Stage); 6]
     (
         [HALF, ONE, ZERO, QUARTER],
         FLUSH,
-        None,
-        None,
+        NO_ISOLATION,
         ZeroDivisor,
         Stage::ReverseThru,
     ),
     (
         FLUSH,
         [ZERO, ONE, MOST, ZERO],
-        None,
-        Some(LEAST),
+        Isolation {
+            forward: None,
+            reverse: Some(LEAST),
+        },
         OffScale,
         Stage::ReverseThru,
     ),
     (
         FLUSH,
         [ZERO, MOST, MOST, ZERO],
-        Some(LEAST),
-        Some(LEAST),
+        Isolation {
+            forward: Some(LEAST),
+            reverse: Some(LEAST),
+        },
         OffScale,
         Stage::ForwardThru,
     ),
@@ -413,18 +424,12 @@ const THRUS: [(Four, Four, Option<Numbers>, Option<Numbers>, Refusal, Stage); 6]
 
 #[test]
 fn thrus_are_refused(rt: HostRuntime) -> Result<(), Fail> {
-    for (thru, read_thru, forward, reverse, cause, stage) in THRUS {
+    for (thru, read_thru, isolation, cause, stage) in THRUS {
         let listed = standards(IDEAL, IDEAL, thru)?;
         let read = standards(IDEAL, IDEAL, read_thru)?;
-        let refused = Err(StageRefusal { cause, stage });
-        assert_eq!(rt; solve(listed, read, forward, reverse)?, refused);
+        assert_eq!(rt; solve(listed, read, isolation)?, refused(cause, stage));
     }
     Ok(())
-}
-
-/// A refusal of either transfer, by its cause and its stage.
-fn refused(cause: Refusal, stage: Stage) -> Result<SParameters<Disc>, StageRefusal> {
-    Err(StageRefusal { cause, stage })
 }
 
 const PERFECT: Six = [ZERO, ZERO, ONE, ZERO, ZERO, ONE];

@@ -1,5 +1,5 @@
 //! Discs against figures worked by an independent calculation in whole numbers, and at the edges.
-use crate::answer::{L, Numbers, U, disc, numbers};
+use crate::plain::{L, Numbers, U, disc, numbers};
 use disc::OutOfRange;
 use enclosure::Refusal::{OffScale, ZeroDivisor};
 use enclosure::{Enclosure, Refusal};

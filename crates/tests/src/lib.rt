@@ -2,8 +2,6 @@
 #![tactic(auto)]
 
 #[cfg(test)]
-mod answer;
-#[cfg(test)]
 mod at_one_port;
 #[cfg(test)]
 mod at_two_ports;
@@ -11,3 +9,5 @@ mod at_two_ports;
 mod discs;
 #[cfg(test)]
 mod of_discs;
+#[cfg(test)]
+mod plain;

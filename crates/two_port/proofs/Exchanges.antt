@@ -3,7 +3,7 @@
 use Rattle.std.proofs.Common.{◌≡◌}
 use Rattle.enclosure.specs.Arithmetic.{Arithmetic}
 use Rattle.enclosure.specs.Discs.{discs}
-use Rattle.enclosure.proofs.Outcomes.{bind_assoc}
+use Rattle.enclosure.proofs.Steps.{bind_assoc}
 use Rattle.one_port.specs.declared.ThreeTerms.{ThreeTerms}
 use Rattle.two_port.specs.Equations.{exchange, directed, seen}
 use Rattle.two_port.specs.declared.Direction.{Direction}

@@ -20,6 +20,9 @@ module _ {A : Type 0} (R : Arithmetic A) where
   abbrev pub normalised : A → A → A → Result A Refusal
   normalised m e t = work_of R ((the 1 ⊖ the 2) ⊘ the 3) m (e ∷ t ∷ [])
 
+  abbrev pub source_loop_of : Port A → Result A Refusal
+  source_loop_of p = work_of R (one ⊕ the 1 ⊗ the 2) p.reflected (p.es ∷ [])
+
   abbrev pub divisor_of : Port A → Port A → A → A → Result A Refusal
   divisor_of p q c d = work_of R ((one ⊕ the 1 ⊗ the 5) ⊗ (one ⊕ the 2 ⊗ the 6) ⊖ the 3 ⊗ the 4 ⊗ the 7 ⊗ the 8) p.reflected
       (q.reflected ∷ c ∷ d ∷ p.es ∷ q.es ∷ q.el ∷ p.el ∷ [])

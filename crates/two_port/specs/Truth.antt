@@ -83,7 +83,7 @@ module _ {A : Type 0} (O : Ops) (◌∋◌ : A → O.C → Type 0) where
     pub forward_leakage : LeakageHeld M.isolation.forward t.forward.ex
     pub reverse_leakage : LeakageHeld M.isolation.reverse t.reverse.ex
 
--- ---- the truth
+-- ---- the truth; a clause names the arithmetic, the exact numbers and ∋ one by one, for it says with them what is meant
 
 module _ {A : Type 0} (R : Arithmetic A) (O : Ops) (inv : O.C → O.C) (◌∋◌ : A → O.C → Type 0) where
   open O use {C}
@@ -104,6 +104,6 @@ module _ {A : Type 0} (R : Arithmetic A) (O : Ops) (inv : O.C → O.C) (◌∋�
   RawTrue T S M = (t : TwelveTerms C) (s : SParameters C) → TermsHeld O ◌∋◌ T t → SParametersHeld O ◌∋◌ S s
       → RawExists O inv t s × SParametersHeld O ◌∋◌ M (raw O inv t s)
 
-  -- where M is what embedding some values with the terms T Ok, S holds every device that the values hold
+  -- where M is what embedding some values with the terms T answered, S holds every device that the values hold
   abbrev pub ComesBack : TwelveTerms A → SParameters A → SParameters A → Type 0
   ComesBack T M S = (E : SParameters A) → embedded R T E ≡ Ok M → (s : SParameters C) → SParametersHeld O ◌∋◌ E s → SParametersHeld O ◌∋◌ S s

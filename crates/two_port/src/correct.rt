@@ -3,7 +3,7 @@ ghost use Rattle.std.specs.Prelude.{◌≡◌, IfOk};
 ghost use Rattle.exact.specs.Numbers.{exacts, invert};
 ghost use Rattle.equations.specs.Formula.{worked};
 ghost use Rattle.two_port.specs.Equations.{correct, corrected, device_in, from_raw};
-ghost use Rattle.two_port.specs.Formulas.{divisor_of, normalised, reflection_of, transmission_of};
+ghost use Rattle.two_port.specs.Formulas.{divisor_of, normalised, reflection_of, source_loop_of, transmission_of};
 ghost use Rattle.two_port.specs.Truth.{ComesBack, DeviceTrue};
 
 use crate::{SParameters, TwelveTerms};
@@ -19,6 +19,15 @@ struct Port<A> {
     el: A,
 }
 
+impl<A: Enclosure> Port<A> {
+    /// 1 + b ES, where b is the reflection.
+    fn source_loop(self) -> Result<A, Refusal>
+        ensures { result ≡ source_loop_of A.arithmetic self }
+    {
+        A::one().plus(self.reflected.times(self.es)?)
+    }
+}
+
 /// A raw value, less the term that adds to it and by the one that it is multiplied by: (M - E)/T.
 fn normalise<A: Enclosure>(m: A, e: A, t: A) -> Result<A, Refusal>
     ensures { result ≡ normalised A.arithmetic m e t }
@@ -30,9 +39,7 @@ fn normalise<A: Enclosure>(m: A, e: A, t: A) -> Result<A, Refusal>
 fn divisor<A: Enclosure>(port1: Port<A>, port2: Port<A>, c: A, d: A) -> Result<A, Refusal>
     ensures { result ≡ divisor_of A.arithmetic port1 port2 c d }
 {
-    let x = A::one().plus(port1.reflected.times(port1.es)?)?;
-    let y = A::one().plus(port2.reflected.times(port2.es)?)?;
-    let p = x.times(y)?;
+    let p = port1.source_loop()?.times(port2.source_loop()?)?;
     let q = c.times(d)?.times(port2.el)?.times(port1.el)?;
     p.minus(q)
 }
@@ -41,8 +48,7 @@ fn divisor<A: Enclosure>(port1: Port<A>, port2: Port<A>, c: A, d: A) -> Result<A
 fn reflection<A: Enclosure>(a: A, far: Port<A>, c: A, d: A, by: A) -> Result<A, Refusal>
     ensures { result ≡ reflection_of A.arithmetic a far c d by }
 {
-    let x = A::one().plus(far.reflected.times(far.es)?)?;
-    let p = a.times(x)?;
+    let p = a.times(far.source_loop()?)?;
     let q = far.el.times(c)?.times(d)?;
     p.minus(q)?.over(by)
 }

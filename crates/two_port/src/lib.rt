@@ -14,6 +14,7 @@ use one_port::Sol;
 pub use parameters::SParameters;
 
 /// The error terms of one direction.
+// six in a row, as the model lists them: `forward.reflection.ed` would say no more than `forward.ed`
 #[derive(Clone, Copy, PartialEq, Eq, Debug)]
 pub struct Direction<A> {
     /// Directivity.
@@ -55,6 +56,7 @@ pub struct Isolation<A> {
 }
 
 /// What was read of the standards.
+// so that a reading has the name of what it is of, the fields of `Standards` stand here again
 #[derive(Clone, Copy, PartialEq, Eq, Debug)]
 pub struct Readings<A> {
     pub port1: Sol<A>,

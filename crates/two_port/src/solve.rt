@@ -22,8 +22,9 @@ impl<A: Enclosure> TwelveTerms<A> {
         let forward = directed(port1, isolation.forward, listed.thru, read.thru);
         let forward = Stage::ForwardThru.note(forward)?;
         let thru = listed.thru.exchanged();
-        let seen = read.thru.exchanged();
-        let reverse = Stage::ReverseThru.note(directed(port2, isolation.reverse, thru, seen))?;
+        let read_thru = read.thru.exchanged();
+        let reverse = directed(port2, isolation.reverse, thru, read_thru);
+        let reverse = Stage::ReverseThru.note(reverse)?;
         Ok(TwelveTerms { forward, reverse })
     }
 }

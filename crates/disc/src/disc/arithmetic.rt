@@ -19,6 +19,14 @@ fn product_radius(a: Disc, b: Disc) -> u64
     spread.div_ceil(ONE.unsigned_abs()) + 2
 }
 
+/// In units of 2^-24 again, rounded down, below zero too.
+// of 64 bits: one function with `floor_by` would be of 128, and products would convert in and out
+fn floor_units(z: i64) -> i64
+    ensures { result ≡ down z U }
+{
+    z.div_euclid(ONE)
+}
+
 /// `z` times 2^48 by `e`, rounded down, below zero too.
 fn floor_by(z: i64, e: u64) -> i128
     requires positive { 0 < e }
@@ -49,6 +57,7 @@ impl Enclosure for Disc {
         }
     }
 
+    #[tactic(auto, using(exact::proofs::Numbers::exact_field, enclosure::proofs::Enclosing::discs_enclose))]
     fn one() -> Disc
         ensures value { result ≡ one }
         ensures laws { ExactField × DiscsEnclose }
@@ -66,7 +75,7 @@ impl Enclosure for Disc {
         Disc::on_scale(self.re + b.re, self.im + b.im, self.radius + b.radius)
     }
 
-    // written out beside `plus`: one function for both would be handed the operation
+    // written out beside `plus`: as the sum with the negative it is no shorter
     fn minus(self, b: Disc) -> Result<Disc, Refusal>
         ensures value { result ≡ difference self b }
         ensures encloses { HoldsEach Holds subtract self b result }
@@ -78,8 +87,8 @@ impl Enclosure for Disc {
         ensures value { result ≡ product self b }
         ensures encloses { HoldsEach Holds multiply self b result }
     {
-        let re = (self.re * b.re - self.im * b.im).div_euclid(ONE);
-        let im = (self.re * b.im + self.im * b.re).div_euclid(ONE);
+        let re = floor_units(self.re * b.re - self.im * b.im);
+        let im = floor_units(self.re * b.im + self.im * b.re);
         Disc::on_scale(re, im, product_radius(self, b))
     }
 

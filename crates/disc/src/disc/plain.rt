@@ -24,6 +24,7 @@ impl TryFrom<PlainDisc> for Disc {
 
     ghost try_from_gives = { λ numbers result. result ≡ made numbers };
 
+    #[tactic(auto, using(std::proofs::lemmas::Grind::common_steps), unfolding(enclosure::specs::Discs::ranged))]
     fn try_from(numbers: PlainDisc) -> Result<Disc, OutOfRange> {
         let radius = u64::try_from(numbers.radius).map_err(|_| OutOfRange)?;
         Disc::on_scale(numbers.re, numbers.im, radius).map_err(|_| OutOfRange)
@@ -45,8 +46,7 @@ impl From<Disc> for PlainDisc {
         PlainDisc {
             re: disc.re,
             im: disc.im,
-            // it fits: a conversion would have an error that cannot come
-            radius: disc.radius as i64,
+            radius: disc.radius.cast_signed(),
         }
     }
 }

@@ -16,6 +16,7 @@ impl Disc {
     }
 
     /// The least whole number of units that is no less than the distance of the centre from zero.
+    #[tactic(auto, using(enclosure::proofs::Rounding::root_above, enclosure::proofs::Rounding::root_exact, enclosure::proofs::Rounding::root_is_least))]
     pub fn size(self) -> u64
         ensures value { result ≡ size self }
         ensures least { LeastRoot (square self) result }

@@ -5,6 +5,12 @@ use Rattle.one_port.proofs.Joining.{joined, joined_is}
 use Rattle.one_port.proofs.Truths.{terms_true}
 use Rattle.one_port.proofs.ThreeTerms.solve.Goals as goal
 
+pub returns-in_err-q-clause-value : goal.returns-in_err-q-clause-value
+returns-in_err-q-clause-value g c =
+    let R = g.A.Enclosure.arithmetic in
+    let e : c.from_residual-in_err-q.result ≡ joined R c.args.listed c.args.read = search rules in
+    e ∙ joined_is R c.args.listed c.args.read
+
 pub returns-clause-value : goal.returns-clause-value
 returns-clause-value g c =
     let R = g.A.Enclosure.arithmetic in

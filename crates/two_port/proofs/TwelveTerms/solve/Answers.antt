@@ -9,7 +9,7 @@ returns-in_err-reverse-clause-value g c =
     let t = rw c.solve.ensures.value at c.in_ok-port1.ensures in
     let u = rw c.solve-2.ensures.value at c.in_ok-port2.ensures in
     let f = rw c.directed-forward.ensures at c.in_ok-forward.ensures in
-    let r = rw (c.directed.ensures, c.exchanged-thru.ensures, c.exchanged-seen.ensures) at c.in_err-reverse.ensures in
+    let r = rw (c.directed-reverse.ensures, c.exchanged-thru.ensures, c.exchanged-read_thru.ensures) at c.in_err-reverse.ensures in
     rw (← t, ← u, ← f, ← r) (search rules)
 
 pub returns-clause-value : goal.returns-clause-value
@@ -17,7 +17,7 @@ returns-clause-value g c =
     let t = rw c.solve.ensures.value at c.in_ok-port1.ensures in
     let u = rw c.solve-2.ensures.value at c.in_ok-port2.ensures in
     let f = rw c.directed-forward.ensures at c.in_ok-forward.ensures in
-    let r = rw (c.directed.ensures, c.exchanged-thru.ensures, c.exchanged-seen.ensures) at c.in_ok-reverse.ensures in
+    let r = rw (c.directed-reverse.ensures, c.exchanged-thru.ensures, c.exchanged-read_thru.ensures) at c.in_ok-reverse.ensures in
     rw (← t, ← u, ← f, ← r) refl
 
 pub returns-clause-truth : goal.returns-clause-truth

@@ -9,6 +9,7 @@ pub(crate) const U: i64 = 16_777_216;
 pub(crate) const L: i64 = 1_073_741_824;
 
 /// Re, im and radius.
+// a tuple, not a `PlainDisc`, so that a row of a table is one line
 pub(crate) type Numbers = (i64, i64, i64);
 
 /// Short, open and load.
@@ -21,7 +22,7 @@ pub(crate) fn disc((re, im, radius): Numbers) -> Result<Disc, OutOfRange> {
     Disc::try_from(PlainDisc { re, im, radius })
 }
 
-/// Here and in the tests a function for each struct, for they differ in the names of fields alone.
+// for each struct of discs a function like this one: a trait for all would need an impl for each
 pub(crate) fn sol(numbers: Three) -> Result<Sol<Disc>, OutOfRange> {
     let [short, open, load] = numbers.try_map(disc)?;
     Ok(Sol { short, open, load })
