@@ -1,9 +1,8 @@
 -- What the parts of an answer come to.
-use Rattle.std.proofs.Common.{◌≡◌, ◌^◌, ◌≤◌, ℕ, ℤ, pos, negsuc, ◌+ℤ◌, ◌-ℤ◌, ◌*ℤ◌, unsigned_abs, FitsSigned, w64, to_z, of_z, Result, refl, mul-le-mul, arith}
+use Rattle.std.proofs.Common.{◌≡◌, ◌^◌, ◌≤◌, ℕ, ℤ, ◌+ℤ◌, ◌-ℤ◌, ◌*ℤ◌, unsigned_abs, FitsSigned, w64, to_z, of_z, Result, mul-le-mul, arith}
 use Rattle.std.proofs.lemmas.Int.{ints, to_z-of_z, unsigned_abs-mul}
-use Rattle.std.specs.Int.{int_div_euclid}
 use Rattle.enclosure.specs.declared.refusal.Refusal.{Refusal}
-use Rattle.enclosure.specs.Discs.{Ball, ball, scaled, down, real_part, imaginary_part}
+use Rattle.enclosure.specs.Discs.{Ball, ball, scaled, real_part, imaginary_part}
 use Rattle.disc.specs.declared.disc.Disc.TheInside.{Inside}
 use Rattle.disc.specs.contracts.disc.Disc.{the_view, the_invariant}
 

@@ -3,16 +3,17 @@ ghost use Rattle.std.specs.Prelude.{◌≡◌};
 ghost use Rattle.enclosure.specs.Refusals.{cause};
 ghost use Rattle.enclosure.specs.declared.refusal.Refusal.TheVariants.{OffScale};
 
-use std::error::Error;
-use std::fmt;
 use std::num::TryFromIntError;
+use thiserror::Error;
 
 /// Why an operation is refused, by the number of the cause.
-#[derive(Clone, Copy, PartialEq, Eq, Debug)]
+#[derive(Clone, Copy, PartialEq, Eq, Debug, Error)]
 pub enum Refusal {
     /// The divisor may be zero.
+    #[error("refused by {}: the divisor may be zero", u8::from(*self))]
     ZeroDivisor = 8,
     /// A part or the radius of the result is larger than the limit.
+    #[error("refused by {}: off scale", u8::from(*self))]
     OffScale = 9,
 }
 
@@ -33,15 +34,3 @@ impl From<TryFromIntError> for Refusal {
         Self::OffScale
     }
 }
-
-impl fmt::Display for Refusal {
-    fn fmt<W: fmt::Write>(&self, f: &mut fmt::Formatter<W>) -> fmt::Result {
-        let why = match self {
-            Refusal::ZeroDivisor => "the divisor may be zero",
-            Refusal::OffScale => "off scale",
-        };
-        write!(f, "refused by {}: {why}", u8::from(*self))
-    }
-}
-
-impl Error for Refusal {}

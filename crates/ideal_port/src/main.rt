@@ -5,6 +5,9 @@
 use disc::{Disc, OutOfRange, PlainDisc};
 use one_port::{Sol, ThreeTerms};
 
+/// One, in units.
+const ONE: i64 = 1 << 24;
+
 /// A number of units, exactly.
 fn real(units: i64) -> Result<Disc, OutOfRange> {
     Disc::try_from(PlainDisc {
@@ -17,8 +20,8 @@ fn real(units: i64) -> Result<Disc, OutOfRange> {
 /// Short, open and load as an ideal kit lists them.
 fn ideal() -> Result<Sol<Disc>, OutOfRange> {
     Ok(Sol {
-        short: real(-16_777_216)?,
-        open: real(16_777_216)?,
+        short: real(-ONE)?,
+        open: real(ONE)?,
         load: real(0)?,
     })
 }
@@ -31,7 +34,7 @@ fn print(rt: &impl Print, name: &str, disc: Disc) -> anyhow::Result<()> {
 fn run(rt: &impl Print) -> anyhow::Result<()> {
     let standards = ideal()?;
     let terms = ThreeTerms::solve(standards, standards)?;
-    let half = real(8_388_608)?;
+    let half = real(ONE / 2)?;
     print(rt, "ED", terms.ed)?;
     print(rt, "ES", terms.es)?;
     print(rt, "ER", terms.er)?;

@@ -5,8 +5,7 @@ ghost use Rattle.std.specs.Prelude.{◌≡◌};
 ghost use Rattle.stage.specs.Stages.{at_stage, stage_number};
 
 use enclosure::Refusal;
-use std::error::Error;
-use std::fmt;
+use thiserror::Error;
 
 /// A stage of the working-out, by its number.
 #[derive(Clone, Copy, PartialEq, Eq, Debug)]
@@ -26,7 +25,8 @@ pub enum Stage {
 }
 
 /// Why a stage is refused: by the cause that its working-out met.
-#[derive(Clone, Copy, PartialEq, Eq, Debug)]
+#[derive(Clone, Copy, PartialEq, Eq, Debug, Error)]
+#[error("{cause}, at stage {}", u8::from(self.stage))]
 pub struct StageRefusal {
     pub cause: Refusal,
     pub stage: Stage,
@@ -49,11 +49,3 @@ impl From<Stage> for u8 {
         stage as u8
     }
 }
-
-impl fmt::Display for StageRefusal {
-    fn fmt<W: fmt::Write>(&self, f: &mut fmt::Formatter<W>) -> fmt::Result {
-        write!(f, "{}, at stage {}", self.cause, u8::from(self.stage))
-    }
-}
-
-impl Error for StageRefusal {}

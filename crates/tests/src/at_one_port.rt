@@ -7,6 +7,7 @@ use one_port::ThreeTerms;
 use std::test::Fail;
 
 /// ED, ES and ER.
+// as `sol` is: a trait for all would need an impl for each
 fn three_terms(numbers: Three) -> Result<ThreeTerms<Disc>, OutOfRange> {
     let [ed, es, er] = numbers.try_map(disc)?;
     Ok(ThreeTerms { ed, es, er })

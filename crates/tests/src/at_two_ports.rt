@@ -25,6 +25,7 @@ const MOST: Numbers = (L, 0, 0);
 
 const LEAST: Numbers = (-L, 0, 0);
 
+// as `sol` is, this and the next: a trait for all would need an impl for each
 fn four(numbers: Four) -> Result<SParameters<Disc>, OutOfRange> {
     let [s11, s21, s12, s22] = numbers.try_map(disc)?;
     Ok(SParameters { s11, s21, s12, s22 })
@@ -88,7 +89,7 @@ const FLUSH: Four = [ZERO, ONE, ONE, ZERO];
 fn ideal_device(rt: HostRuntime) -> Result<(), Fail> {
     let ideal = standards(IDEAL, IDEAL, FLUSH)?;
     let terms = solve(ideal, ideal, NO_ISOLATION)??;
-    let forward = [
+    let both = [
         (0, 0, 5),
         (0, 0, 5),
         (16_777_216, 0, 24),
@@ -96,15 +97,7 @@ fn ideal_device(rt: HostRuntime) -> Result<(), Fail> {
         (0, 0, 13),
         (16_777_216, 0, 17),
     ];
-    let reverse = [
-        (0, 0, 5),
-        (0, 0, 5),
-        (16_777_216, 0, 24),
-        (0, 0, 0),
-        (0, 0, 13),
-        (16_777_216, 0, 17),
-    ];
-    assert_eq!(rt; terms, twelve(forward, reverse)?);
+    assert_eq!(rt; terms, twelve(both, both)?);
     let device = four([
         (8_388_608, 0, 0),
         (0, 4_194_304, 0),

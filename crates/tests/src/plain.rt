@@ -3,10 +3,10 @@ use disc::{Disc, OutOfRange, PlainDisc};
 use one_port::Sol;
 
 /// One, in units.
-pub(crate) const U: i64 = 16_777_216;
+pub(crate) const U: i64 = 1 << 24;
 
 /// The limit of parts and radius, in units.
-pub(crate) const L: i64 = 1_073_741_824;
+pub(crate) const L: i64 = 1 << 30;
 
 /// Re, im and radius.
 // a tuple, not a `PlainDisc`, so that a row of a table is one line

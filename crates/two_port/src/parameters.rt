@@ -31,6 +31,7 @@ impl<A: Enclosure> SParameters<A> {
     pub(super) fn determinant(self) -> Result<A, Refusal>
         ensures { result ≡ determinant_of A.arithmetic self }
     {
+        // as the equation stands: a function of the four factors would hide which are meant
         let p = self.s11.times(self.s22)?;
         let q = self.s21.times(self.s12)?;
         p.minus(q)

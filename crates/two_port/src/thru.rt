@@ -11,6 +11,7 @@ use one_port::ThreeTerms;
 fn residual<A: Enclosure>(t: ThreeTerms<A>, m: A, x: A, y: A) -> Result<A, Refusal>
     ensures { result ≡ residual_of A.arithmetic t m x y }
 {
+    // as the formula stands: a function of the four factors would hide which are meant
     let b = x.minus(t.es.times(y)?)?;
     let p = m.times(b)?;
     let q = t.er.times(y)?;

@@ -20,7 +20,8 @@ fn product_radius(a: Disc, b: Disc) -> u64
 }
 
 /// In units of 2^-24 again, rounded down, below zero too.
-// of 64 bits: one function with `floor_by` would be of 128, and products would convert in and out
+// of 64 bits, as its radius: one function with `floor_by` would be of 128, and products would
+// convert in and out
 fn floor_units(z: i64) -> i64
     ensures { result ≡ down z U }
 {

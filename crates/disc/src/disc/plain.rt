@@ -4,10 +4,11 @@ ghost use Rattle.enclosure.specs.Discs.{ball};
 ghost use Rattle.disc.specs.Plain.{made, plain};
 
 use super::Disc;
-use std::error::Error;
 use std::fmt;
+use thiserror::Error;
 
 /// Three plain numbers of units, which may be a disc or not: `Disc::try_from` says.
+// a type beside `Disc`, which no numbers out of range can have
 #[derive(Clone, Copy, PartialEq, Eq, Debug)]
 pub struct PlainDisc {
     pub re: i64,
@@ -16,7 +17,8 @@ pub struct PlainDisc {
 }
 
 /// Three plain numbers that are no disc.
-#[derive(Clone, Copy, PartialEq, Eq, Debug)]
+#[derive(Clone, Copy, PartialEq, Eq, Debug, Error)]
+#[error("refused by {}: not a disc", u8::from(*self))]
 pub struct OutOfRange;
 
 impl TryFrom<PlainDisc> for Disc {
@@ -52,16 +54,9 @@ impl From<Disc> for PlainDisc {
 }
 
 /// `re im radius`
+// no derive prints the bare numbers
 impl fmt::Display for PlainDisc {
     fn fmt<W: fmt::Write>(&self, f: &mut fmt::Formatter<W>) -> fmt::Result {
         write!(f, "{} {} {}", self.re, self.im, self.radius)
     }
 }
-
-impl fmt::Display for OutOfRange {
-    fn fmt<W: fmt::Write>(&self, f: &mut fmt::Formatter<W>) -> fmt::Result {
-        write!(f, "refused by {}: not a disc", u8::from(*self))
-    }
-}
-
-impl Error for OutOfRange {}
