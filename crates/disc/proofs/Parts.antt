@@ -1,8 +1,11 @@
 -- What the parts of an answer come to.
-use Rattle.std.proofs.Common.{◌≡◌, ◌^◌, ◌≤◌, ℕ, ℤ, ◌+ℤ◌, ◌-ℤ◌, ◌*ℤ◌, unsigned_abs, FitsSigned, w64, to_z, of_z, Result, mul-le-mul, arith}
+use Rattle.std.proofs.Common.{◌≡◌, ◌^◌, ◌≤◌, ℕ, ℤ, ◌+ℤ◌, ◌-ℤ◌, ◌*ℤ◌, unsigned_abs, FitsSigned, w64, to_z, of_z, Result, mul-le-mul, arith, Ok, Err, false, is_ok}
+use Rattle.std.specs.Result.{OkIff, MatchResult}
 use Rattle.std.proofs.lemmas.Int.{ints, to_z-of_z, unsigned_abs-mul}
+use Rattle.std.proofs.lemmas.Grind.{common_steps}
 use Rattle.enclosure.specs.declared.refusal.Refusal.{Refusal}
-use Rattle.enclosure.specs.Discs.{Ball, ball, scaled, real_part, imaginary_part}
+use Rattle.enclosure.specs.declared.refusal.Refusal.TheVariants.{OffScale}
+use Rattle.enclosure.specs.Discs.{Ball, ball, scaled, ranged, real_part, imaginary_part}
 use Rattle.disc.specs.declared.disc.Disc.TheInside.{Inside}
 use Rattle.disc.specs.contracts.disc.Disc.{the_view, the_invariant}
 
@@ -38,3 +41,17 @@ module _ (a b : Inside) (p : the_invariant a) (q : the_invariant b) where
       let m = product_most a.re b.im p.0 q.1 in
       let n = product_most a.im b.re p.1 q.0 in
       rw ((product_held a.re b.im p.0 q.1).1, (product_held a.im b.re p.1 q.0).1) (omega (arith, ints), omega (arith, ints))
+
+-- what a conversion gives that did not fail, behind its own error
+pub converted : {T E : Type 0} (D : Type 0) (r : Result T E) (P : Type 0) (v y : T) → OkIff r P v → MatchResult r (λ x. ◌≡◌ {A = Result T D} (Ok y) (Ok x)) (λ _. ⊥) → P × (y ≡ v)
+converted D (Ok x) P v y f m = (f.0, cc)
+converted D (Err e) P v y f m = absurd m
+
+pub not_converted : {T E : Type 0} (r : Result T E) (P : Type 0) (v : T) → OkIff r P v → false ≡ is_ok r → P → ⊥
+not_converted (Ok x) P v f e p = let z : ◌≡◌ {A = ℕ} 0 1 = cc in absurd (omega arith)
+not_converted (Err e) P v f g p = f p
+
+-- a part that does not fit is off scale
+pub im_off_scale : (x y : ℤ) (n : ℕ) → (FitsSigned w64 y → ⊥) → ◌≡◌ {A = Result Ball Refusal} (Err OffScale) (scaled (ball x y n))
+unfolding ranged
+im_off_scale x y n h = grind (arith, common_steps)

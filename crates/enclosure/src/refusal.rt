@@ -1,9 +1,7 @@
 //! Why an operation is refused.
 ghost use Rattle.std.specs.Prelude.{◌≡◌};
 ghost use Rattle.enclosure.specs.Refusals.{cause};
-ghost use Rattle.enclosure.specs.declared.refusal.Refusal.TheVariants.{OffScale};
 
-use std::num::TryFromIntError;
 use thiserror::Error;
 
 /// Why an operation is refused, by the number of the cause.
@@ -23,14 +21,5 @@ impl From<Refusal> for u8 {
     fn from(refusal: Refusal) -> u8 {
         // a match would list the numbers again
         refusal as u8
-    }
-}
-
-/// A number that is too large for its width is off scale.
-impl From<TryFromIntError> for Refusal {
-    ghost from_gives = { λ _ refusal. refusal ≡ OffScale };
-
-    fn from(_: TryFromIntError) -> Self {
-        Self::OffScale
     }
 }

@@ -78,7 +78,7 @@ fn finish<A: Enclosure>(
 
 impl<A: Enclosure> ThreeTerms<A> {
     /// The terms, from what the standards are listed as and what was read of them.
-    // each caller would make a struct of the two, and the first line would take it apart
+    // no struct of the two: each caller would make it, and the first line would take it apart
     pub fn solve(listed: Sol<A>, read: Sol<A>) -> Result<ThreeTerms<A>, Refusal>
         ensures value { result ≡ solved A.arithmetic listed read }
         ensures truth { IfOk result (TermsTrue A.arithmetic exacts invert A.holds listed read) }

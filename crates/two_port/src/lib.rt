@@ -56,7 +56,7 @@ pub struct Isolation<A> {
 }
 
 /// What was read of the standards.
-// so that a reading has the name of what it is of, the fields of `Standards` stand here again
+// the fields of `Standards` again, so that a reading has the name of what it is of
 #[derive(Clone, Copy, PartialEq, Eq, Debug)]
 pub struct Readings<A> {
     pub port1: Sol<A>,

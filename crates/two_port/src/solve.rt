@@ -12,7 +12,7 @@ use stage::{Stage, StageRefusal};
 
 impl<A: Enclosure> TwelveTerms<A> {
     /// The terms, from what the standards are listed as and what was read of them.
-    // each caller would make a struct of the two, and the first lines would take it apart
+    // no struct of the two: each caller would make it, and the first lines would take it apart
     pub fn solve(listed: Standards<A>, read: Readings<A>) -> Result<TwelveTerms<A>, StageRefusal>
         ensures value { result ≡ solved A.arithmetic A.origin listed read }
         ensures truth { IfOk result (TermsTrue A.arithmetic exacts invert A.holds listed read) }

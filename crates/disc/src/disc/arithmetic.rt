@@ -107,7 +107,11 @@ impl Enclosure for Disc {
         let im = floor_by(-self.im, e);
         let radius = (u128::from(self.radius) * u128::from(ONE_SQUARED)).div_ceil(u128::from(e))
             + 2;
-        Disc::on_scale(re.try_into()?, im.try_into()?, radius.try_into()?)
+        // what does not fit is off scale
+        let re = i64::try_from(re).map_err(|_| Refusal::OffScale)?;
+        let im = i64::try_from(im).map_err(|_| Refusal::OffScale)?;
+        let radius = u64::try_from(radius).map_err(|_| Refusal::OffScale)?;
+        Disc::on_scale(re, im, radius)
     }
 
     fn touches(self, b: Disc) -> bool
