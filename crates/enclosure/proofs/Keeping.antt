@@ -11,6 +11,12 @@ pub kept : {E X : Type 0} (P : X → Type 0) (r : Result X E) {o : Result X E} �
 kept P (Ok x) e f = f x (sym e)
 kept P (Err k) e f = tt
 
+-- the product with a value that holds the inverses holds the quotients
+pub quotient_holds : {A : Type 0} (◌∋◌ : A → Exact → Type 0) (a b i : A) (r : Result A Refusal)
+    → HoldsInverses ◌∋◌ b (Ok i) → HoldsEach ◌∋◌ multiply a i r → HoldsQuotients ◌∋◌ a b r
+quotient_holds ◌∋◌ a b i (Ok d) h k x y p q = let g = h y q in (g.0, k x (invert y) p g.1)
+quotient_holds ◌∋◌ a b i (Err e) h k x y p q = tt
+
 module _ {A : Type 0} (R : Arithmetic A) (◌∋◌ : A → Exact → Type 0) (L : Encloses R exacts invert ◌∋◌) where
   infix 20 ◌∋◌
   pub sum_kept : (a b : A) (r : Result A Refusal) → r ≡ R.plus a b → HoldsEach ◌∋◌ add a b r
@@ -29,6 +35,4 @@ module _ {A : Type 0} (R : Arithmetic A) (◌∋◌ : A → Exact → Type 0) (L
   touch_kept a b t e x h k = e ∙ L.common_touch a b x h k
 
   pub quotient_kept : (a b i : A) (r : Result A Refusal) → Ok i ≡ R.reciprocal b → r ≡ R.times a i → HoldsQuotients ◌∋◌ a b r
-  quotient_kept a b i r e f x y h k =
-      let g = L.inverse_held b i y k (sym e) in
-      kept _ r f λ d p. (g.0, L.product_held a i d x (invert y) h g.1 p)
+  quotient_kept a b i r e f = quotient_holds ◌∋◌ a b i r (inverse_kept b (Ok i) e) (product_kept a i r f)

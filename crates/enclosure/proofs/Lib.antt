@@ -3,4 +3,6 @@ pub mod Rounding
 pub mod Holding
 pub mod Reciprocals
 pub mod Enclosing
+pub mod Alike
+pub mod Fitting
 pub mod Keeping

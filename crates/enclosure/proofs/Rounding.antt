@@ -23,7 +23,7 @@ rest_less z e h = grind (arith, mod-lt)
 
 -- ---- up
 
-up_enough : (n e : ℕ) → zero < e → n ≤ e * up n e
+pub up_enough : (n e : ℕ) → zero < e → n ≤ e * up n e
 up_enough n e h = omega (arith, div_ceil_times n e h)
 
 -- a radius that is rounded up, and room for what the parts have lost

@@ -2,3 +2,4 @@ pub mod Refusals
 pub mod Arithmetic
 pub mod Holding
 pub mod Discs
+pub mod Fitted

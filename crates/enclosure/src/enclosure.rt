@@ -17,11 +17,11 @@ pub trait Enclosure: Copy {
     /// Which numbers a value holds.
     ghost holds: { Self → Exact → Type 0 };
 
-    /// Exactly zero.
+    /// Zero: it holds the number zero, by a law below.
     fn zero() -> Self
         ensures { result ≡ origin };
 
-    /// Exactly one.
+    /// One: it holds the number one, by the laws below.
     fn one() -> Self
         ensures { result ≡ arithmetic.unit };
 

@@ -18,6 +18,7 @@ pub enum Refusal {
 impl From<Refusal> for u8 {
     ghost from_gives = { λ refusal number. number ≡ cause refusal };
 
+    /// The number of the cause.
     fn from(refusal: Refusal) -> u8 {
         // a match would list the numbers again
         refusal as u8

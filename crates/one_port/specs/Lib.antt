@@ -1,3 +1,4 @@
 pub mod Equations
 pub mod Parts
 pub mod Truth
+pub mod Mapped

@@ -44,6 +44,7 @@ impl Stage {
 impl From<Stage> for u8 {
     ghost from_gives = { λ stage number. number ≡ stage_number stage };
 
+    /// The number of the stage.
     fn from(stage: Stage) -> u8 {
         // a match would list the numbers again
         stage as u8

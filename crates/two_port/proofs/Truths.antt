@@ -23,7 +23,7 @@ use Rattle.equations.proofs.Enclosed.{OfAnswer, yields, none, of, next, yielded,
 use Rattle.one_port.proofs.Truths as OnePorts
 use Rattle.two_port.proofs.Algebra.{thru_is, device_is}
 
-noted : {A : Type 0} {P : A → Type 0} {r : Result A Refusal} (s : Stage) → OfAnswer P r → OfAnswer P (at_stage s r)
+pub noted : {A : Type 0} {P : A → Type 0} {r : Result A Refusal} (s : Stage) → OfAnswer P r → OfAnswer P (at_stage s r)
 noted s (yields h) = yields h
 noted s none = none
 

@@ -18,8 +18,8 @@ fn residual<A: Enclosure>(t: ThreeTerms<A>, m: A, x: A, y: A) -> Result<A, Refus
     p.minus(q)
 }
 
-/// The direction that drives port 1 of the thru; leakage is exactly zero where no isolation
-/// reading was taken.
+/// The direction that drives port 1 of the thru; leakage is zero where no isolation reading was
+/// taken, and for discs exactly so.
 pub(super) fn directed<A: Enclosure>(
     t: ThreeTerms<A>,
     isolation: Option<A>,

@@ -1,11 +1,15 @@
 //! The operations on discs.
-ghost use Rattle.std.specs.Prelude.{◌≡◌, ◌+◌, ◌*◌, ◌^◌, ◌≤◌, ◌<◌, ◌*ℤ◌, pos, unsigned_abs};
+ghost use Rattle.std.specs.Prelude.{◌≡◌, ◌+◌, ◌*◌, ◌^◌, ◌≤◌, ◌<◌, ◌*ℤ◌, pos, refl, unsigned_abs};
 ghost use Rattle.exact.specs.Numbers.{ExactField, add, multiply, nought, subtract};
-ghost use Rattle.enclosure.specs.Discs.{DiscsEnclose, Holds, U, difference, discs, down, one, origin, product, reciprocal, spread, sum, touches, up};
-ghost use Rattle.enclosure.specs.Holding.{HoldsEach, HoldsInverses, TouchIfCommon};
-ghost use Rattle.enclosure.proofs.Enclosing.{discs_enclose, zero_held};
+ghost use Rattle.enclosure.specs.Discs.{DiscsEnclose, Holds, U, ball, difference, discs, down, one, origin, product, reciprocal, scaled, spread, sum, touches, up};
+ghost use Rattle.enclosure.specs.Arithmetic.{quotient};
+ghost use Rattle.enclosure.specs.Holding.{HoldsEach, HoldsInverses, HoldsQuotients, TouchIfCommon};
+ghost use Rattle.enclosure.specs.Fitted.{answer};
+ghost use Rattle.enclosure.proofs.Enclosing.{zero_held};
+ghost use Rattle.enclosure.proofs.Fitting.{fitted_encloses};
+ghost use Rattle.disc.specs.Meaning.{Has, disc, disc_arithmetic, meaning};
 
-use super::{Disc, ONE};
+use super::{Disc, LIMIT, ONE};
 use enclosure::{Enclosure, Refusal};
 
 /// One in units, squared.
@@ -13,7 +17,7 @@ const ONE_SQUARED: u64 = 1 << 48;
 
 /// The radius of a product.
 fn product_radius(a: Disc, b: Disc) -> u64
-    ensures { result ≡ up (spread a b) U + 2 }
+    ensures { result ≡ up (spread (meaning a) (meaning b)) U + 2 }
 {
     let spread = a.reach(b) + b.reach(a) + a.radius * b.radius;
     spread.div_ceil(ONE.unsigned_abs()) + 2
@@ -36,20 +40,43 @@ fn floor_by(z: i64, e: u64) -> i128
     (i128::from(z) * i128::from(ONE_SQUARED)).div_euclid(i128::from(e))
 }
 
+impl Disc {
+    /// A result of an operation; refused where it is off scale.
+    #[tactic(auto, unfolding(enclosure::specs::Discs::ranged))]
+    pub(super) fn on_scale(re: i64, im: i64, radius: u64) -> Result<Disc, Refusal>
+        ensures { answer meaning result ≡ scaled (ball re im radius) }
+    {
+        if re.unsigned_abs() > LIMIT || im.unsigned_abs() > LIMIT || radius > LIMIT {
+            return Err(Refusal::OffScale);
+        }
+        Ok(Disc { re, im, radius })
+    }
+
+    /// The quotient: the disc times the reciprocal of `b`.
+    // as `over` of any values, whose contract is about any arithmetic; this one is about the numbers
+    pub fn over(self, b: Disc) -> Result<Disc, Refusal>
+        ensures value { answer meaning result ≡ quotient discs (meaning self) (meaning b) }
+        ensures encloses { HoldsQuotients Has self b result }
+        ensures fitted { result ≡ quotient disc_arithmetic self b }
+    {
+        Enclosure::over(self, b)
+    }
+}
+
 impl Enclosure for Disc {
-    ghost holds = { Holds };
+    ghost holds = { λ d. Holds (meaning d) };
 
-    ghost origin = { origin };
+    ghost origin = { disc origin refl };
 
-    ghost arithmetic = { discs };
+    ghost arithmetic = { disc_arithmetic };
 
-    ghost encloses = { discs_enclose };
+    ghost encloses = { fitted_encloses meaning disc (λ b h. refl) };
 
     ghost zero_held = { zero_held };
 
     fn zero() -> Disc
-        ensures value { result ≡ origin }
-        ensures holds { Holds result nought }
+        ensures value { meaning result ≡ origin }
+        ensures holds { Has result nought }
     {
         Disc {
             re: 0,
@@ -60,33 +87,38 @@ impl Enclosure for Disc {
 
     #[tactic(auto, using(exact::proofs::Numbers::exact_field, enclosure::proofs::Enclosing::discs_enclose))]
     fn one() -> Disc
-        ensures value { result ≡ one }
+        ensures value { meaning result ≡ one }
         ensures laws { ExactField × DiscsEnclose }
     {
+        let zero = Disc::zero();
         Disc {
             re: ONE,
-            ..Disc::zero()
+            im: zero.im,
+            radius: zero.radius,
         }
     }
 
     fn plus(self, b: Disc) -> Result<Disc, Refusal>
-        ensures value { result ≡ sum self b }
-        ensures encloses { HoldsEach Holds add self b result }
+        ensures value { answer meaning result ≡ sum (meaning self) (meaning b) }
+        ensures encloses { HoldsEach Has add self b result }
+        ensures fitted { result ≡ disc_arithmetic.plus self b }
     {
         Disc::on_scale(self.re + b.re, self.im + b.im, self.radius + b.radius)
     }
 
     // written out beside `plus`: as the sum with the negative it is no shorter
     fn minus(self, b: Disc) -> Result<Disc, Refusal>
-        ensures value { result ≡ difference self b }
-        ensures encloses { HoldsEach Holds subtract self b result }
+        ensures value { answer meaning result ≡ difference (meaning self) (meaning b) }
+        ensures encloses { HoldsEach Has subtract self b result }
+        ensures fitted { result ≡ disc_arithmetic.minus self b }
     {
         Disc::on_scale(self.re - b.re, self.im - b.im, self.radius + b.radius)
     }
 
     fn times(self, b: Disc) -> Result<Disc, Refusal>
-        ensures value { result ≡ product self b }
-        ensures encloses { HoldsEach Holds multiply self b result }
+        ensures value { answer meaning result ≡ product (meaning self) (meaning b) }
+        ensures encloses { HoldsEach Has multiply self b result }
+        ensures fitted { result ≡ disc_arithmetic.times self b }
     {
         let re = floor_units(self.re * b.re - self.im * b.im);
         let im = floor_units(self.re * b.im + self.im * b.re);
@@ -94,8 +126,9 @@ impl Enclosure for Disc {
     }
 
     fn reciprocal(self) -> Result<Disc, Refusal>
-        ensures value { result ≡ reciprocal self }
-        ensures encloses { HoldsInverses Holds self result }
+        ensures value { answer meaning result ≡ reciprocal (meaning self) }
+        ensures encloses { HoldsInverses Has self result }
+        ensures fitted { result ≡ disc_arithmetic.reciprocal self }
     {
         let s = self.square();
         let t = self.radius * self.radius;
@@ -115,8 +148,8 @@ impl Enclosure for Disc {
     }
 
     fn touches(self, b: Disc) -> bool
-        ensures value { result ≡ touches self b }
-        ensures encloses { TouchIfCommon Holds self b result }
+        ensures value { result ≡ touches (meaning self) (meaning b) }
+        ensures encloses { TouchIfCommon Has self b result }
     {
         let x = self.re.abs_diff(b.re);
         let y = self.im.abs_diff(b.im);

@@ -1,6 +1,8 @@
 //! A disc as it lies in lists, rows and slates.
 ghost use Rattle.std.specs.Prelude.{◌≡◌, pos};
 ghost use Rattle.enclosure.specs.Discs.{ball};
+ghost use Rattle.enclosure.specs.Fitted.{answer};
+ghost use Rattle.disc.specs.Meaning.{meaning};
 ghost use Rattle.disc.specs.Plain.{made, plain};
 
 use super::Disc;
@@ -16,7 +18,7 @@ pub struct PlainDisc {
     pub radius: i64,
 }
 
-/// Three plain numbers that are no disc.
+/// Three plain numbers that are no disc: the refusal of number 1.
 #[derive(Clone, Copy, PartialEq, Eq, Debug, Error)]
 #[error("refused by {}: not a disc", u8::from(*self))]
 pub struct OutOfRange;
@@ -24,8 +26,9 @@ pub struct OutOfRange;
 impl TryFrom<PlainDisc> for Disc {
     type Error = OutOfRange;
 
-    ghost try_from_gives = { λ numbers result. result ≡ made numbers };
+    ghost try_from_gives = { λ numbers result. answer meaning result ≡ made numbers };
 
+    /// The disc of three plain numbers, if they are one.
     #[tactic(auto, using(std::proofs::lemmas::Grind::common_steps), unfolding(enclosure::specs::Discs::ranged))]
     fn try_from(numbers: PlainDisc) -> Result<Disc, OutOfRange> {
         let radius = u64::try_from(numbers.radius).map_err(|_| OutOfRange)?;
@@ -42,8 +45,9 @@ impl From<OutOfRange> for u8 {
 }
 
 impl From<Disc> for PlainDisc {
-    ghost from_gives = { λ disc numbers. numbers ≡ plain disc };
+    ghost from_gives = { λ disc numbers. numbers ≡ plain (meaning disc) };
 
+    /// The numbers of the disc.
     fn from(disc: Disc) -> PlainDisc {
         PlainDisc {
             re: disc.re,

@@ -1,14 +1,16 @@
 use Rattle.std.proofs.Common.{◌≡◌, refl, arith}
 use Rattle.std.proofs.lemmas.Int.{ints}
-use Rattle.enclosure.specs.Discs.{Holds, discs, difference}
-use Rattle.enclosure.proofs.Enclosing.{discs_enclose}
+use Rattle.enclosure.specs.Discs.{difference}
+use Rattle.enclosure.specs.Fitted.{answer}
 use Rattle.enclosure.proofs.Keeping.{difference_kept}
+use Rattle.disc.specs.Meaning.{meaning, Has, disc_arithmetic}
+use Rattle.disc.proofs.Fitting.{fits, discs_enclose}
 use Rattle.disc.proofs.Parts.{same_scaled}
 use Rattle.disc.proofs.disc.arithmetic.DiscEnclosure.minus.Goals as goal
 
-equal : (c : goal.After-on_scale) → c.on_scale.result ≡ difference c.args.self c.args.b
+equal : (c : goal.After-on_scale) → answer meaning c.on_scale.result ≡ difference (meaning c.args.self) (meaning c.args.b)
 unfolding difference
-equal c = rw (← c.self.view_is, ← c.b.view_is) (same_scaled c.on_scale.ensures (omega (arith, ints)) (omega (arith, ints)) refl)
+equal c = same_scaled c.on_scale.ensures (omega (arith, ints)) (omega (arith, ints)) refl
 
 pub returns : goal.returns
-returns c = record { value = equal c; encloses = difference_kept discs Holds discs_enclose c.args.self c.args.b _ (equal c) }
+returns c = let e = fits _ _ (equal c) in record { value = equal c; encloses = difference_kept disc_arithmetic Has discs_enclose c.args.self c.args.b _ e; fitted = e }

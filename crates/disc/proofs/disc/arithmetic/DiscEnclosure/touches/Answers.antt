@@ -1,8 +1,9 @@
-use Rattle.std.proofs.Common.{◌≡◌, ◌^◌, ◌≤◌, ◌-ℤ◌, leb, unsigned_abs, mul-le-mul, arith}
+use Rattle.std.proofs.Common.{◌≡◌, ◌^◌, ◌≤◌, ◌-ℤ◌, unsigned_abs, mul-le-mul, arith}
 use Rattle.std.proofs.lemmas.Int.{ints}
-use Rattle.enclosure.specs.Discs.{Holds, discs, touches}
-use Rattle.enclosure.proofs.Enclosing.{discs_enclose}
+use Rattle.enclosure.specs.Discs.{touches}
 use Rattle.enclosure.proofs.Keeping.{touch_kept}
+use Rattle.disc.specs.Meaning.{Has, disc_arithmetic}
+use Rattle.disc.proofs.Fitting.{discs_enclose}
 use Rattle.disc.proofs.disc.arithmetic.DiscEnclosure.touches.Goals as goal
 
 pub overflow_add-result : goal.overflow_add-result
@@ -14,7 +15,6 @@ overflow_add-result c =
 pub returns : goal.returns
 unfolding touches
 returns c =
-    let x : c.abs_diff-x.result ≡ unsigned_abs (c.self.inside.re -ℤ c.b.inside.re) = omega (arith, ints) in
-    let y : c.abs_diff-y.result ≡ unsigned_abs (c.self.inside.im -ℤ c.b.inside.im) = omega (arith, ints) in
-    let e : leb _ _ ≡ touches c.args.self c.args.b = rw (x, y, ← c.self.view_is, ← c.b.view_is) in
-    record { value = e; encloses = touch_kept discs Holds discs_enclose c.args.self c.args.b _ e }
+    let x : c.abs_diff-x.result ≡ unsigned_abs (c.args.self.re -ℤ c.args.b.re) = omega (arith, ints) in
+    let y : c.abs_diff-y.result ≡ unsigned_abs (c.args.self.im -ℤ c.args.b.im) = omega (arith, ints) in
+    record { value = rw (x, y); encloses = touch_kept disc_arithmetic Has discs_enclose c.args.self c.args.b _ (rw (x, y)) }
