@@ -1,5 +1,5 @@
 -- A disc and its numbers.
-use Rattle.std.proofs.Common.{◌≡◌, true, Result, refl}
+use Rattle.std.proofs.Common.{◌≡◌, ◌∙◌, ap, sym, true, Ok, Err, Result, refl}
 use Rattle.std.proofs.lemmas.Bool.{and_from, le-leb}
 use Rattle.std.specs.Coded.{le_prop}
 use Rattle.exact.specs.Numbers.{exacts, invert}
@@ -30,8 +30,21 @@ again d h i =
 pub fits : (r : Result Disc Refusal) (o : Result Ball Refusal) → answer meaning r ≡ o → r ≡ (o >>= fit meaning disc)
 fits = Fitting.fits meaning disc inside again
 
-pub discs_enclose : Encloses disc_arithmetic exacts invert Has
-discs_enclose = Fitting.fitted_encloses meaning disc (λ b h. refl)
+-- discs of the same numbers are one, so an answer is known by its numbers
+one_meaning : (d e : Disc) → meaning d ≡ meaning e → d ≡ e
+one_meaning d e p =
+    let q : ◌≡◌ {A = Result Disc Refusal} (Ok d) (Ok e) =
+    fits (Ok d) (Ok (meaning d)) refl ∙ ap (fit meaning disc) p ∙ sym (fits (Ok e) (Ok (meaning e)) refl) in
+    cc
+
+pub same_answers : {E : Type 0} (r s : Result Disc E) → answer meaning r ≡ answer meaning s → r ≡ s
+same_answers (Ok d) (Ok e) h = ap Ok (one_meaning d e cc)
+same_answers (Ok d) (Err k) h = cc
+same_answers (Err k) (Ok e) h = cc
+same_answers (Err k) (Err l) h = cc
+
+pub disc_encloses : Encloses disc_arithmetic exacts invert Has
+disc_encloses = Fitting.fitted_encloses meaning disc (λ b h. refl)
 
 -- what the arithmetic of discs answers has the numbers that the rules work out
 pub alike : Maps disc_arithmetic discs meaning

@@ -1,4 +1,5 @@
-//! The disc and its range. The struct stands alone here, and its methods in the modules below.
+//! The disc and its range. The struct stands here without its methods, which are in the modules
+//! below.
 ghost use Rattle.std.specs.Prelude.{◌^◌, ◌≤◌, unsigned_abs};
 
 mod arithmetic;

@@ -12,13 +12,13 @@ use Rattle.enclosure.proofs.Alike.{Maps, gives}
 use Rattle.enclosure.proofs.Enclosing.{discs_enclose}
 
 -- what both ways of a test meet
-pub both_ways : {X : Type 0} (P : Bool → X → Type 0) (t : Bool) (x : t ≡ true → X) (y : X) → ((h : t ≡ true) → P true (x h)) → P false y → P t (if_true t x y)
+both_ways : {X : Type 0} (P : Bool → X → Type 0) (t : Bool) (x : t ≡ true → X) (y : X) → ((h : t ≡ true) → P true (x h)) → P false y → P t (if_true t x y)
 both_ways P true x y h k = h refl
 both_ways P false x y h k = k
 
 module _ {X : Type 0} (numbers : X → Ball) (disc : (b : Ball) → in_range b ≡ true → X) (same : (b : Ball) (h : in_range b ≡ true) → numbers (disc b h) ≡ b) where
   -- the numbers of the disc of b are b
-  pub fit_is : (b : Ball) → answer numbers (fit numbers disc b) ≡ ranged OffScale b
+  fit_is : (b : Ball) → answer numbers (fit numbers disc b) ≡ ranged OffScale b
   unfolding fit ranged
   fit_is b = both_ways (λ t r. answer numbers r ≡ cond t (Ok b) (Err OffScale)) (in_range b) _ _ (λ h. ap Ok (same b h)) refl
 
@@ -32,19 +32,19 @@ module _ {X : Type 0} (numbers : X → Ball) (disc : (b : Ball) → in_range b �
       go true e = e
       go false e = refl
 
-  pub of_sum : (a b : Ball) → answer numbers (sum a b >>= fit numbers disc) ≡ sum a b
+  of_sum : (a b : Ball) → answer numbers (sum a b >>= fit numbers disc) ≡ sum a b
   unfolding sum
   of_sum a b = of_ranged _
 
-  pub of_difference : (a b : Ball) → answer numbers (difference a b >>= fit numbers disc) ≡ difference a b
+  of_difference : (a b : Ball) → answer numbers (difference a b >>= fit numbers disc) ≡ difference a b
   unfolding difference
   of_difference a b = of_ranged _
 
-  pub of_product : (a b : Ball) → answer numbers (product a b >>= fit numbers disc) ≡ product a b
+  of_product : (a b : Ball) → answer numbers (product a b >>= fit numbers disc) ≡ product a b
   unfolding product
   of_product a b = of_ranged _
 
-  pub of_reciprocal : (a : Ball) → answer numbers (reciprocal a >>= fit numbers disc) ≡ reciprocal a
+  of_reciprocal : (a : Ball) → answer numbers (reciprocal a >>= fit numbers disc) ≡ reciprocal a
   unfolding reciprocal reciprocal_by
   of_reciprocal a = cond_both (nat_le (square a) (a.radius * a.radius)) (Err ZeroDivisor) _
       (λ o. answer numbers (o >>= fit numbers disc) ≡ o) (λ _. refl) (λ _. of_ranged _)
@@ -67,7 +67,7 @@ module _ {X : Type 0} (numbers : X → Ball) (disc : (b : Ball) → in_range b �
       go false e = cc
 
   -- .. and an accepted answer has the numbers that were worked out
-  pub fitted_is : (o : Result Ball Refusal) (x : X) → (o >>= fit numbers disc) ≡ Ok x → o ≡ Ok (numbers x)
+  fitted_is : (o : Result Ball Refusal) (x : X) → (o >>= fit numbers disc) ≡ Ok x → o ≡ Ok (numbers x)
   fitted_is (Ok b) x e = ap Ok (only b (numbers x) (sym (fit_is b) ∙ ap (answer numbers) e))
   fitted_is (Err k) x e = cc
 

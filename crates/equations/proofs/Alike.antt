@@ -19,7 +19,7 @@ module _ {A B : Type 0} (R : Arithmetic A) (S : Arithmetic B) (◌~◌ : A → B
   either true h k = h
   either false h k = k
 
-  pub keep_alike : (t : Term) (v : A) (w : B) (ρ : ℕ → A) (σ : ℕ → B) → v ~ w → ((n : ℕ) → ρ n ~ σ n)
+  keep_alike : (t : Term) (v : A) (w : B) (ρ : ℕ → A) (σ : ℕ → B) → v ~ w → ((n : ℕ) → ρ n ~ σ n)
       → (n : ℕ) → keep t v ρ n ~ keep t w σ n
   keep_alike t v w ρ σ p h n = either (n == number t) p (h n)
 

@@ -18,6 +18,7 @@ fn there_and_back(terms: ThreeTerms<Disc>, device: Disc) -> Result<Disc, Refusal
     terms.correct(raw)
 }
 
+/// And those of two ports.
 fn there_and_back_of_two(
     terms: TwelveTerms<Disc>,
     device: SParameters<Disc>,

@@ -1,5 +1,5 @@
 //! The operations on discs.
-ghost use Rattle.std.specs.Prelude.{◌≡◌, ◌+◌, ◌*◌, ◌^◌, ◌≤◌, ◌<◌, ◌*ℤ◌, pos, refl, unsigned_abs};
+ghost use Rattle.std.specs.Prelude.{◌≡◌, ◌+◌, ◌^◌, ◌<◌, ◌*ℤ◌, pos, refl};
 ghost use Rattle.exact.specs.Numbers.{ExactField, add, multiply, nought, subtract};
 ghost use Rattle.enclosure.specs.Discs.{DiscsEnclose, Holds, U, ball, difference, discs, down, one, origin, product, reciprocal, scaled, spread, sum, touches, up};
 ghost use Rattle.enclosure.specs.Arithmetic.{quotient};

@@ -1,6 +1,5 @@
 //! A disc as it lies in lists, rows and slates.
-ghost use Rattle.std.specs.Prelude.{◌≡◌, pos};
-ghost use Rattle.enclosure.specs.Discs.{ball};
+ghost use Rattle.std.specs.Prelude.{◌≡◌};
 ghost use Rattle.enclosure.specs.Fitted.{answer};
 ghost use Rattle.disc.specs.Meaning.{meaning};
 ghost use Rattle.disc.specs.Plain.{made, plain};
@@ -39,6 +38,7 @@ impl TryFrom<PlainDisc> for Disc {
 impl From<OutOfRange> for u8 {
     ghost from_gives = { λ _ number. number ≡ 1 };
 
+    /// The number of the refusal.
     fn from(_: OutOfRange) -> u8 {
         1
     }

@@ -3,11 +3,11 @@ use Rattle.exact.proofs.Numbers.{exact_numbers}
 use Rattle.enclosure.specs.Discs.{Holds, discs}
 use Rattle.enclosure.specs.Fitted.{answer}
 use Rattle.enclosure.proofs.Enclosing.{discs_enclose}
-use Rattle.disc.specs.Meaning.{meaning, disc_arithmetic}
-use Rattle.two_port.proofs.Truths.{raw_true}
-use Rattle.two_port.specs.Mapped.{parameters}
 use Rattle.enclosure.proofs.Alike.{told}
+use Rattle.disc.specs.Meaning.{meaning, disc_arithmetic}
 use Rattle.disc.proofs.Fitting.{alike}
+use Rattle.two_port.specs.Mapped.{parameters}
+use Rattle.two_port.proofs.Truths.{raw_true}
 use Rattle.two_port.proofs.Mapped.{of_embedded_device}
 use Rattle.tests.proofs.of_discs.embed_two_ports.Goals as goal
 

@@ -3,11 +3,11 @@ use Rattle.exact.proofs.Numbers.{exact_numbers}
 use Rattle.enclosure.specs.Discs.{Holds, discs}
 use Rattle.enclosure.specs.Fitted.{answer}
 use Rattle.enclosure.proofs.Enclosing.{discs_enclose}
-use Rattle.disc.specs.Meaning.{meaning, disc_arithmetic}
-use Rattle.one_port.proofs.Truths.{terms_true}
-use Rattle.one_port.specs.Mapped.{terms}
 use Rattle.enclosure.proofs.Alike.{told}
+use Rattle.disc.specs.Meaning.{meaning, disc_arithmetic}
 use Rattle.disc.proofs.Fitting.{alike}
+use Rattle.one_port.specs.Mapped.{terms}
+use Rattle.one_port.proofs.Truths.{terms_true}
 use Rattle.one_port.proofs.Mapped.{of_three_terms}
 use Rattle.tests.proofs.of_discs.solve_one_port.Goals as goal
 

@@ -3,11 +3,11 @@ use Rattle.exact.proofs.Numbers.{exact_numbers}
 use Rattle.enclosure.specs.Discs.{Holds, discs}
 use Rattle.enclosure.specs.Fitted.{answer}
 use Rattle.enclosure.proofs.Enclosing.{discs_enclose, zero_held}
-use Rattle.disc.specs.Meaning.{meaning, disc_arithmetic}
-use Rattle.two_port.proofs.Truths.{terms_true}
-use Rattle.two_port.specs.Mapped.{twelve}
 use Rattle.enclosure.proofs.Alike.{told}
+use Rattle.disc.specs.Meaning.{meaning, disc_arithmetic}
 use Rattle.disc.proofs.Fitting.{alike}
+use Rattle.two_port.specs.Mapped.{twelve}
+use Rattle.two_port.proofs.Truths.{terms_true}
 use Rattle.two_port.proofs.Mapped.{of_twelve_terms}
 use Rattle.tests.proofs.of_discs.solve_two_ports.Goals as goal
 

@@ -7,7 +7,7 @@ use Rattle.enclosure.specs.Fitted.{answer}
 use Rattle.enclosure.specs.declared.refusal.Refusal.TheVariants.{ZeroDivisor, OffScale}
 use Rattle.enclosure.proofs.Keeping.{inverse_kept}
 use Rattle.disc.specs.Meaning.{meaning, Has, disc_arithmetic}
-use Rattle.disc.proofs.Fitting.{fits, discs_enclose}
+use Rattle.disc.proofs.Fitting.{fits, disc_encloses}
 use Rattle.disc.proofs.Parts.{same_scaled, same_down, held, converted, not_converted, im_off_scale}
 use Rattle.disc.proofs.disc.arithmetic.DiscEnclosure.reciprocal.Goals as goal
 
@@ -58,4 +58,4 @@ pub returns-in_err-radius-clause-fitted : goal.returns-in_err-radius-clause-fitt
 returns-in_err-radius-clause-fitted c = fits _ _ (returns-in_err-radius-clause-value c)
 
 pub returns : goal.returns
-returns c = let e = fits _ _ (equal c) in record { value = equal c; encloses = inverse_kept disc_arithmetic Has discs_enclose c.args.self _ e; fitted = e }
+returns c = let e = fits _ _ (equal c) in record { value = equal c; encloses = inverse_kept disc_arithmetic Has disc_encloses c.args.self _ e; fitted = e }

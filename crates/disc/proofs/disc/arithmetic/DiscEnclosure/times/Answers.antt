@@ -4,7 +4,7 @@ use Rattle.enclosure.specs.Discs.{product}
 use Rattle.enclosure.specs.Fitted.{answer}
 use Rattle.enclosure.proofs.Keeping.{product_kept}
 use Rattle.disc.specs.Meaning.{meaning, Has, disc_arithmetic}
-use Rattle.disc.proofs.Fitting.{fits, discs_enclose}
+use Rattle.disc.proofs.Fitting.{fits, disc_encloses}
 use Rattle.disc.proofs.Parts.{same_scaled, same_down, product_held, real_held, imaginary_held}
 use Rattle.disc.proofs.disc.arithmetic.DiscEnclosure.times.Goals as goal
 
@@ -28,4 +28,4 @@ pub overflow_add-self : goal.overflow_add-self
 overflow_add-self c = (imaginary_held c.args.self c.args.b).0
 
 pub returns : goal.returns
-returns c = let e = fits _ _ (equal c) in record { value = equal c; encloses = product_kept disc_arithmetic Has discs_enclose c.args.self c.args.b _ e; fitted = e }
+returns c = let e = fits _ _ (equal c) in record { value = equal c; encloses = product_kept disc_arithmetic Has disc_encloses c.args.self c.args.b _ e; fitted = e }

@@ -3,7 +3,7 @@ use Rattle.std.proofs.lemmas.Int.{ints}
 use Rattle.enclosure.specs.Discs.{touches}
 use Rattle.enclosure.proofs.Keeping.{touch_kept}
 use Rattle.disc.specs.Meaning.{Has, disc_arithmetic}
-use Rattle.disc.proofs.Fitting.{discs_enclose}
+use Rattle.disc.proofs.Fitting.{disc_encloses}
 use Rattle.disc.proofs.disc.arithmetic.DiscEnclosure.touches.Goals as goal
 
 pub overflow_add-result : goal.overflow_add-result
@@ -17,4 +17,4 @@ unfolding touches
 returns c =
     let x : c.abs_diff-x.result ≡ unsigned_abs (c.args.self.re -ℤ c.args.b.re) = omega (arith, ints) in
     let y : c.abs_diff-y.result ≡ unsigned_abs (c.args.self.im -ℤ c.args.b.im) = omega (arith, ints) in
-    record { value = rw (x, y); encloses = touch_kept disc_arithmetic Has discs_enclose c.args.self c.args.b _ (rw (x, y)) }
+    record { value = rw (x, y); encloses = touch_kept disc_arithmetic Has disc_encloses c.args.self c.args.b _ (rw (x, y)) }
