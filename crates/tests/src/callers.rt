@@ -1,5 +1,6 @@
-//! What callers may do with discs and with what holds them. Proved, and run by no test.
-ghost use Rattle.std.specs.Prelude.{◌≡◌};
+//! What callers may do with discs and with what holds them. Proved, and run by no test; where there
+//! is no contract, that such code gets a proof is all that is meant.
+ghost use Rattle.std.specs.Prelude.{◌≡◌, ◌+◌, ◌^◌, ◌≤◌, unsigned_abs};
 ghost use Rattle.disc.specs.Meaning.{disc_arithmetic};
 ghost use Rattle.one_port.specs.Equations as OnePort;
 ghost use Rattle.tests.specs.Trips as Trips;
@@ -36,7 +37,7 @@ fn of_ideal(standards: Sol<Disc>) -> Result<ThreeTerms<Disc>, Refusal>
     ThreeTerms::solve(standards, standards)
 }
 
-/// The widest of the corrected values, in units; zero where none is accepted.
+/// The terms are used at each value of a slice.
 fn widest(terms: ThreeTerms<Disc>, raws: &[Disc]) -> i64 {
     let mut most = 0;
     for raw in raws {
@@ -58,13 +59,17 @@ fn both_or_zero(reading: Option<Disc>) -> (Disc, Disc) {
     )
 }
 
-/// The range of lent discs is known: the sum of their radii is no larger than 2^31.
-fn radii(a: &Disc, b: &Disc) -> i64 {
+/// The range of lent discs is known.
+fn radii(a: &Disc, b: &Disc) -> i64
+    ensures { unsigned_abs result ≤ 2 ^ 31 }
+{
     PlainDisc::from(*a).radius + PlainDisc::from(*b).radius
 }
 
 /// And of those in a slice.
-fn next_radius(discs: &[Disc], i: usize) -> i64 {
+fn next_radius(discs: &[Disc], i: usize) -> i64
+    ensures { unsigned_abs result ≤ 2 ^ 30 + 1 }
+{
     if i < discs.len() {
         PlainDisc::from(discs[i]).radius + 1
     } else {
@@ -73,6 +78,8 @@ fn next_radius(discs: &[Disc], i: usize) -> i64 {
 }
 
 /// And of those in lent terms.
-fn parts(terms: &ThreeTerms<Disc>) -> i64 {
+fn parts(terms: &ThreeTerms<Disc>) -> i64
+    ensures { unsigned_abs result ≤ 2 ^ 31 }
+{
     PlainDisc::from(terms.ed).re + PlainDisc::from(terms.es).re
 }
